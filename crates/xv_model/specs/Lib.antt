@@ -1,0 +1,14 @@
+-- Definitions. An account is a list of entries, the newest first: x ∷ h is the account h, and then the entry x.
+-- Bytes, lines and the messages in flight are lists in their own order, the oldest first.
+pub mod Boards
+pub mod Start
+pub mod Kinds
+pub mod PqTable
+pub mod Pairs
+pub mod Notices
+pub mod Assignments
+pub mod Validity
+pub mod Legal
+pub mod Text
+pub mod Scripts
+pub mod Halves

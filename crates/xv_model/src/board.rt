@@ -1,0 +1,35 @@
+//! A board: how many of each thing it has, and of which kind.
+
+use xv_base::Limits;
+
+/// The numbers from `first` to `last`, both among them; `first` is at most `last`.
+#[derive(Clone, Copy)]
+pub struct Span {
+    pub first: u32,
+    pub last: u32,
+}
+
+/// Some numbers: those in the first `count` spans, which are at most 16. The other spans are 0 and 0.
+#[derive(Clone, Copy)]
+pub struct Spans {
+    pub count: u8,
+    pub spans: [Span; 16],
+}
+
+/// A board: 1 to 8,192 sources, 1 to 64 processors, 1 to 32 threads, 1 to 16 actors.
+#[derive(Clone, Copy)]
+pub struct Board {
+    pub limits: Limits,
+    /// The size of memory in MiB, at most 64.
+    pub ram_mib: u32,
+    /// Each source has a trigger page and a management page, and not one page for both.
+    pub two_pages: bool,
+    /// A store at the second quarter of a management page is an EOI.
+    pub store_eoi: bool,
+    /// The level sources; all others are message sources.
+    pub level: Spans,
+    /// The sources that start without a valid event assignment.
+    pub unclaimed: Spans,
+    /// The processors that start unconnected.
+    pub unconnected: Spans,
+}

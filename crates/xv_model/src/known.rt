@@ -1,0 +1,38 @@
+//! What is known of an account by what stands for it.
+
+ghost use Rattle.std.specs.Prelude.{◌≡◌, ◌<◌, ℕ, List};
+ghost use Rattle.xv_model.specs.declared.entries.Entry.{Entry};
+ghost use Rattle.xv_model.specs.Start.{Start};
+ghost use Rattle.xv_model.specs.Pairs.{pq};
+ghost use Rattle.xv_model.specs.Notices.{outstanding};
+ghost use Rattle.xv_model.specs.Assignments.{initialised};
+
+/// What a line of several steps asks of the account so far.
+pub trait Known {
+    /// It knows this account, which goes on from this start record.
+    ghost knows: { Self → Start → List Entry → Type 0 };
+
+    /// It knows of the sources below this number.
+    ghost sources: { Self → ℕ };
+
+    /// How many notices of a source are out.
+    fn out(&self, s: u32) -> u64
+        requires { s < sources self.now }
+        ensures { (z : Start) (h : List Entry) → knows self.now z h → result ≡ outstanding z h s };
+
+    /// Whether a source has a valid event assignment.
+    fn initialised(&self, s: u32) -> bool
+        requires { s < sources self.now }
+        ensures { (z : Start) (h : List Entry) → knows self.now z h → result ≡ initialised z h s };
+
+    /// The pair of a source.
+    fn pq(&self, s: u32) -> u8
+        requires { s < sources self.now }
+        ensures { (z : Start) (h : List Entry) → knows self.now z h → result ≡ pq z h s };
+}
+
+/// What stands, from a start record, for a list of fabric entries.
+pub trait Stands {
+    /// It stands for these fabric entries, which go on from this start record.
+    ghost stands: { Self → Start → List Entry → Type 0 };
+}

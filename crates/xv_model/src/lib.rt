@@ -1,0 +1,12 @@
+//! The words of the interrupt controller: boards, operations, outcomes, entries and messages, and the
+//! definitions of what they mean. Nothing here runs a board.
+#![tactic(auto)]
+
+pub mod board;
+pub mod entries;
+pub mod known;
+pub mod laws;
+pub mod messages;
+pub mod operations;
+pub mod outcomes;
+pub mod validity;
