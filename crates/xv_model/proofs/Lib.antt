@@ -1,1 +1,2 @@
 pub mod OneAccount
+pub mod Sums

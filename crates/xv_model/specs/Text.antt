@@ -85,15 +85,27 @@ report_text z h =
     ++ codes "flight " ++ decimal (length z.flight) ++ codes "\n"
     ++ codes "notices " ++ decimal (all_outstanding z h) ++ codes "\ndone\n"
 
--- the header of an account, from `xive-account` to `go`
-abbrev pub header_text : Board → List ℕ
-header_text b =
+-- how many pages a source has, and whether a store is an EOI
+abbrev pub pages_text : Board → List ℕ
+pages_text b =
+    if b.two_pages then (if b.store_eoi then codes "2 1" else codes "2 0")
+    else (if b.store_eoi then codes "1 1" else codes "1 0")
+
+-- the header of an account, from `xive-account` to `go`: what it counts, and then the rest
+abbrev pub counts_text : Board → List ℕ
+counts_text b =
     codes "xive-account 1\nsources " ++ decimal b.limits.sources
     ++ codes "\nprocessors " ++ decimal b.limits.processors
     ++ codes "\nthreads " ++ decimal b.limits.threads
-    ++ codes "\nram " ++ decimal b.ram_mib
+
+abbrev pub rest_text : Board → List ℕ
+rest_text b =
+    codes "\nram " ++ decimal b.ram_mib
     ++ codes "\nactors " ++ decimal b.limits.actors
-    ++ codes "\nesb " ++ (if b.two_pages then codes "2 " else codes "1 ") ++ (if b.store_eoi then codes "1\ngo\n" else codes "0\ngo\n")
+    ++ codes "\nesb " ++ pages_text b ++ codes "\ngo\n"
+
+abbrev pub header_text : Board → List ℕ
+header_text b = counts_text b ++ rest_text b
 
 -- the text of a whole account of a board
 abbrev pub account_text : Board → List Entry → List ℕ

@@ -1,0 +1,7 @@
+use Rattle.std.proofs.Common.{◌≡◌, refl, sym, rules, arith}
+use Rattle.std.proofs.lemmas.Grind.{common_steps}
+use Rattle.xive_cli.proofs.Stepping.{starts}
+use Rattle.xive_cli.proofs.machine.Machine.build.Goals as goal
+
+pub returns-in-Ok-clause-stands : goal.returns-in-Ok-clause-stands
+returns-in-Ok-clause-stands c = starts c.args.board.now _ c.requires.plain ((c.in-Ok.ensures {u = tt}).items_if_clones_equal (λ y same. search rules))

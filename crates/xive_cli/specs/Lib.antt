@@ -1,0 +1,4 @@
+pub mod States
+pub mod Held
+pub mod Standing
+pub mod Lines
