@@ -130,7 +130,8 @@ fn add_counts(line: &mut Text, board: &Board)
     ensures items { line.new.items ≡ line.old.items ++ counts_text board.now }
     ensures len { array_vec_len line.new ≤ array_vec_len line.old + 110 }
 {
-    add(line, b"xive-account 1\nsources ");
+    add(line, b"xive-account 1\n");
+    add(line, b"sources ");
     add_number(line, board.limits.sources as u64);
     add(line, b"\nprocessors ");
     add_number(line, board.limits.processors as u64);

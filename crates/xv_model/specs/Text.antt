@@ -94,7 +94,7 @@ pages_text b =
 -- the header of an account, from `xive-account` to `go`: what it counts, and then the rest
 abbrev pub counts_text : Board → List ℕ
 counts_text b =
-    codes "xive-account 1\nsources " ++ decimal b.limits.sources
+    codes "xive-account 1\n" ++ codes "sources " ++ decimal b.limits.sources
     ++ codes "\nprocessors " ++ decimal b.limits.processors
     ++ codes "\nthreads " ++ decimal b.limits.threads
 

@@ -1,0 +1,173 @@
+//! A reader of lines, which reads ahead in large pieces.
+
+ghost use Rattle.std.specs.Prelude.{◌≡◌, ◌<◌, ◌≤◌, ◌+◌, ◌⊎◌, [], true, false, OnOk, OnErr, length, slice_range};
+ghost use Rattle.std.specs.Io.KnownBytes.{IsAtEnd, Keeps};
+ghost use Rattle.xv_io.specs.Faults.{HasRisen};
+ghost use Rattle.xv_io.specs.Reading.{Reading, rest, GivesLine, HasLongLine, HasNoLine, IsInOrder, IsMoved, line_length};
+
+use crate::{Failed, Source};
+use std::marker::Model;
+
+/// The most bytes of lines that are given.
+pub const LIMIT: u64 = 16_777_216;
+
+/// The most bytes that a line may have.
+pub const LONGEST: usize = 256;
+
+const ROOM: usize = 32768;
+
+const PIECE: usize = 16384;
+
+/// Gives the lines of a source. It holds 32 KiB and takes no memory.
+#[derive(Drop)]
+pub struct LineReader {
+    piece: [u8; ROOM],
+    start: usize,
+    end: usize,
+    at: usize,
+    len: usize,
+    given: u64,
+    ended: bool,
+}
+
+impl Model for LineReader {
+    ghost Value = { Reading };
+
+    ghost view = { λ r. record {
+      line = slice_range r.piece r.start r.end;
+      ahead = slice_range r.piece r.at r.len;
+      given = r.given;
+      ended = r.ended;
+    } };
+
+    ghost invariant = { λ r. IsInOrder r.start r.end r.at r.len r.given };
+}
+
+/// What comes next.
+#[derive(Clone, Copy, Debug)]
+pub enum Next {
+    /// A line, which `line` gives.
+    Line,
+    /// A line that is longer than a line may be.
+    Long,
+    /// The end of what may be given, with no line before it.
+    TooMany,
+    /// The end of the source.
+    End,
+    /// More has to be read before that is known.
+    More,
+}
+
+impl LineReader {
+    pub fn new() -> LineReader
+        ensures line { result.line ≡ [] }
+        ensures ahead { result.ahead ≡ [] }
+        ensures given { result.given ≡ 0 }
+        ensures ended { result.ended ≡ false }
+    {
+        LineReader {
+            piece: [0; ROOM],
+            start: 0,
+            end: 0,
+            at: 0,
+            len: 0,
+            given: 0,
+            ended: false,
+        }
+    }
+
+    /// The line that was given last, without its newline. It is empty before the first.
+    pub fn line(&self) -> &[u8]
+        ensures { result.now ≡ self.now.line }
+    {
+        &self.piece[self.start..self.end]
+    }
+
+    /// Gives the next line out of what is read ahead, or says why there is none.
+    pub fn next(&mut self) -> Next
+        ensures line { result ≡ Next.Line → GivesLine self.old self.new }
+        ensures long { result ≡ Next.Long → HasLongLine self.old }
+        ensures too_many { result ≡ Next.TooMany → HasNoLine self.old true }
+        ensures end { result ≡ Next.End → HasNoLine self.old false }
+        ensures more { result ≡ Next.More → (self.new ≡ self.old) × (self.old.ended ≡ false) × (length self.old.ahead ≤ 256) }
+        ensures short { result ≡ Next.Line → length self.new.line ≤ 256 }
+        ensures ended { self.new.ended ≡ self.old.ended }
+        ensures rises { result ≡ Next.Line → self.old.given < self.new.given }
+        ensures given { self.old.given ≤ self.new.given }
+        ensures bounded { self.new.given ≤ 16777216 }
+        ensures shrinks { length self.new.ahead ≤ length self.old.ahead }
+    {
+        let found = newline_or_len(&self.piece[self.at..self.len]);
+        let room = LIMIT - self.given;
+        if found > LONGEST || found as u64 >= room {
+            if room > LONGEST as u64 {
+                return Next::Long;
+            }
+            return Next::TooMany;
+        }
+        let end = self.at + found;
+        let next = if end < self.len {
+            end + 1
+        } else if !self.ended {
+            return Next::More;
+        } else if found == 0 {
+            return Next::End;
+        } else {
+            end
+        };
+        self.start = self.at;
+        self.end = end;
+        self.given += (next - self.at) as u64;
+        self.at = next;
+        Next::Line
+    }
+
+    /// Reads once, with room for 16 KiB or more. What is ahead moves to the front first, where less room is behind it.
+    pub fn fill<S: Source>(&mut self, source: &mut S) -> Result<(), Failed>
+        requires { length self.old.ahead ≤ 256 }
+        ensures bytes { OnOk result (Keeps (rest self.old (S.left source.old)) (rest self.new (S.left source.new))) }
+        ensures end { OnOk result (self.new.ended ≡ true → IsAtEnd (S.left source.new)) }
+        ensures progress { OnOk result ((length self.old.ahead < length self.new.ahead) ⊎ (self.new.ended ≡ true)) }
+        ensures line { self.new.line ≡ self.old.line }
+        ensures given { self.new.given ≡ self.old.given }
+        ensures err { OnErr result (HasRisen (S.faults source.old) (S.faults source.new)) }
+        ensures unchanged { OnErr result (self.new ≡ self.old) }
+        ensures count { S.faults source.old ≤ S.faults source.new }
+    {
+        let by = make_room(&mut self.piece, self.start, self.len);
+        self.start -= by;
+        self.end -= by;
+        self.at -= by;
+        self.len -= by;
+        let n = source.read(&mut self.piece[self.len..])?;
+        self.len += n;
+        self.ended = n == 0;
+        Ok(())
+    }
+}
+
+/// Moves the bytes from `start` to `len` to the front, where less than 16 KiB of room are behind them, and gives how far.
+fn make_room(piece: &mut [u8; ROOM], start: usize, len: usize) -> usize
+    requires ordered { start ≤ len }
+    requires short { len ≤ start + 513 }
+    requires fits { len ≤ 32768 }
+    ensures moved { IsMoved result len piece.old piece.new }
+    ensures within { result ≤ start }
+    ensures room { len ≤ result + 16384 }
+{
+    if len <= ROOM - PIECE {
+        return 0;
+    }
+    piece.copy_within(start..len, 0);
+    start
+}
+
+/// Where the first newline is, or the length where there is none.
+fn newline_or_len(bytes: &[u8]) -> usize
+    ensures { result ≡ line_length bytes.now }
+{
+    bytes
+        .iter()
+        .position(|&b| b == b'\n')
+        .unwrap_or(bytes.len())
+}
