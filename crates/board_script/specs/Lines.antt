@@ -1,5 +1,5 @@
 -- What a line says.
-use Rattle.std.specs.Prelude.{ℕ, ◌≡◌, ◌==◌, ◌<◌, ◌≤◌, ◌&&◌, ◌||◌, not, nat_lt, Bool, true, false, if◌then◌else◌, List, [], ◌∷◌, length, codes, Option, Some, None}
+use Rattle.std.specs.Prelude.{ℕ, ◌≡◌, ◌==◌, ◌<◌, ◌≤◌, ◌&&◌, ◌||◌, not, nat_lt, true, false, if◌then◌else◌, List, [], ◌∷◌, length, codes, Option, Some, None}
 use Rattle.xv_model.specs.declared.board.Board.{Board}
 use Rattle.xv_model.specs.declared.operations.PqOp.{PqOp}
 use Rattle.xv_model.specs.declared.operations.PqOp.TheVariants.{Trigger, Eoi, Get, Set}
@@ -12,7 +12,7 @@ use Rattle.board_script.specs.declared.stage.Stage.TheVariants.{Header, Work, En
 use Rattle.board_script.specs.declared.lines.Said.{Said}
 use Rattle.board_script.specs.declared.lines.Said.TheVariants as said
 use Rattle.board_script.specs.declared.work.Work.{Work as AWork}
-use Rattle.board_script.specs.Words.{are_printable, word_of, rest_of, is_none, is_blank, is_word}
+use Rattle.board_script.specs.Words.{are_printable, word_of, rest_of, is_blank, is_word}
 use Rattle.board_script.specs.Numbers.{bounded_of, pair_of}
 use Rattle.board_script.specs.Working.{IsFresh}
 

@@ -1,5 +1,5 @@
 -- What a parser answers, line after line.
-use Rattle.std.specs.Prelude.{ℕ, ◌≡◌, ◌+◌, min, List, Option, Some, None, Ok, Err}
+use Rattle.std.specs.Prelude.{ℕ, ◌+◌, min, List, Option, Some, None, Ok, Err}
 use Rattle.std.specs.declared.result.Result.{Result}
 use Rattle.board_script.specs.declared.faults.Cause.TheVariants.{NotBuilt}
 use Rattle.board_script.specs.declared.faults.ScriptFault.{ScriptFault}

@@ -1,5 +1,5 @@
 -- The stage after a line, and what the line says to who runs the script.
-use Rattle.std.specs.Prelude.{ℕ, ◌≡◌, Bool, true, false, replicate, Option, Some, None}
+use Rattle.std.specs.Prelude.{ℕ, ◌≡◌, false, replicate, Option, Some, None}
 use Rattle.xv_model.specs.declared.board.Board.{Board}
 use Rattle.xv_model.specs.declared.board.Spans.{Spans}
 use Rattle.xv_model.specs.Boards.{IsBoard, IsPlain}

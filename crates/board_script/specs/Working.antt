@@ -1,5 +1,5 @@
 -- Work lines on the way.
-use Rattle.std.specs.Prelude.{ℕ, ◌≡◌, Bool, true, false, if◌then◌else◌, List, [], ◌∷◌, Option, Some, None}
+use Rattle.std.specs.Prelude.{ℕ, ◌≡◌, true, false, if◌then◌else◌, List, [], ◌∷◌, Option, Some, None}
 use Rattle.xv_model.specs.declared.operations.Op.{Op}
 use Rattle.xv_model.specs.declared.entries.Entry.{Entry}
 use Rattle.board_script.specs.declared.work.Work.{Work}

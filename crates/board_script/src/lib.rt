@@ -1,13 +1,13 @@
 //! Board scripts: what each line of one says. Nothing here runs a board.
 #![tactic(auto)]
 
+mod advancing;
 pub mod faults;
 mod header;
 pub mod lines;
-pub mod numbers;
+mod numbers;
 pub mod parser;
-mod reading;
 pub mod stage;
-pub mod words;
+mod words;
 pub mod work;
 mod working;

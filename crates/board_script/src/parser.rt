@@ -4,9 +4,9 @@ ghost use Rattle.std.specs.Prelude.{◌≡◌, false, IfOk};
 ghost use Rattle.board_script.specs.Stages.{first_board};
 ghost use Rattle.board_script.specs.Parsing.{not_built};
 
+use crate::advancing::{advance, read_line};
 use crate::faults::{Cause, ScriptFault};
 use crate::lines::Line;
-use crate::reading::{advance, read_line};
 use crate::stage::{Stage, Turn};
 use std::marker::Model;
 use xv_base::Limits;
