@@ -1,0 +1,118 @@
+-- Reading a script line after line, and a work line step after step.
+use Rattle.std.proofs.Common.{ℕ, ◌≡◌, Bool, true, false, List, [], ◌∷◌, ◌++◌, Ok, Err, refl, sym, ◌∙◌, ap, append_assoc}
+use Rattle.std.specs.declared.result.Result.{Result}
+use Rattle.xv_model.specs.declared.board.Board.{Board}
+use Rattle.board_script.specs.declared.faults.ScriptFault.{ScriptFault}
+use Rattle.board_script.specs.declared.lines.Line.{Line}
+use Rattle.board_script.specs.declared.lines.Line.TheVariants as line
+use Rattle.board_script.specs.declared.work.Work.{Work}
+use Rattle.board_script.specs.Working.{HasMade, IsFresh}
+use Rattle.board_script.specs.Stages.{board_at}
+use Rattle.board_script.specs.Parsing.{Parsing, fed, parsing_after, finished}
+use Rattle.board_script.specs.Script.{Script, Accepted, Refused, TooLong, WorkLine, so_far, work_with, ended_by, after_line, script_from}
+
+-- a fresh line has made nothing
+pub nothing_made : (w : Work) → IsFresh w → HasMade w w []
+nothing_made w fresh = (refl, fresh)
+
+-- the line isn't the end of a script
+abbrev pub IsNotEnd : Line → Type 0
+IsNotEnd line.End = ⊥
+IsNotEnd _ = Unit {0}
+
+goes_on : (said : Line) (p : Parsing) (work : List WorkLine) (next : Line → Script) → IsNotEnd said → after_line (Ok said) p work next ≡ next said
+goes_on line.Nothing p work next n = refl
+goes_on line.Header p work next n = refl
+goes_on (line.Go b) p work next n = refl
+goes_on line.Start p work next n = refl
+goes_on line.End p work next n = absurd n
+goes_on (line.Work actor w) p work next n = refl
+
+-- what the lines after one make of it
+rest_from : Parsing → List WorkLine → List (List ℕ) → Bool → Line → Script
+rest_from p work ls t said = script_from p (work_with said work) ls t
+
+-- a line that isn't the end: the script is that of the lines after it
+pub one_line : (p : Parsing) (work : List WorkLine) (l : List ℕ) (ls : List (List ℕ)) (t : Bool) (said : Line) →
+    fed p l ≡ Ok said → IsNotEnd said → script_from p work (l ∷ ls) t ≡ script_from (parsing_after p l) (work_with said work) ls t
+unfolding rest_from
+one_line p work l ls t said e n =
+    let next = rest_from (parsing_after p l) work ls t in
+    ap (λ (r : Result Line ScriptFault). after_line r p work next) e ∙ goes_on said p work next n
+
+pub nothing_line : (p : Parsing) (work : List WorkLine) (l : List ℕ) (ls : List (List ℕ)) (t : Bool) →
+    fed p l ≡ Ok line.Nothing → script_from p work (l ∷ ls) t ≡ script_from (parsing_after p l) work ls t
+nothing_line p work l ls t e = one_line p work l ls t line.Nothing e tt
+
+pub header_line : (p : Parsing) (work : List WorkLine) (l : List ℕ) (ls : List (List ℕ)) (t : Bool) →
+    fed p l ≡ Ok line.Header → script_from p work (l ∷ ls) t ≡ script_from (parsing_after p l) work ls t
+header_line p work l ls t e = one_line p work l ls t line.Header e tt
+
+pub go_line : (p : Parsing) (work : List WorkLine) (l : List ℕ) (ls : List (List ℕ)) (t : Bool) (b : Board) →
+    fed p l ≡ Ok (line.Go b) → script_from p work (l ∷ ls) t ≡ script_from (parsing_after p l) work ls t
+go_line p work l ls t b e = one_line p work l ls t (line.Go b) e tt
+
+pub work_line : (p : Parsing) (work : List WorkLine) (l : List ℕ) (ls : List (List ℕ)) (t : Bool) (actor : ℕ) (w : Work) →
+    fed p l ≡ Ok (line.Work actor w) → script_from p work (l ∷ ls) t ≡ script_from (parsing_after p l) (record { actor = actor; work = w } ∷ work) ls t
+work_line p work l ls t actor w e = one_line p work l ls t (line.Work actor w) e tt
+
+-- the end: the script is accepted, whatever follows
+pub end_line : (p : Parsing) (work : List WorkLine) (l : List ℕ) (ls : List (List ℕ)) (t : Bool) →
+    fed p l ≡ Ok line.End → script_from p work (l ∷ ls) t ≡ Accepted (board_at p.stage) work
+unfolding rest_from
+end_line p work l ls t e = ap (λ (r : Result Line ScriptFault). after_line r p work (rest_from (parsing_after p l) work ls t)) e
+
+-- a line that is refused: so is the script, whatever follows
+pub refused_line : (p : Parsing) (work : List WorkLine) (l : List ℕ) (ls : List (List ℕ)) (t : Bool) (fault : ScriptFault) →
+    fed p l ≡ Err fault → script_from p work (l ∷ ls) t ≡ Refused fault (so_far p work)
+unfolding rest_from
+refused_line p work l ls t fault e = ap (λ (r : Result Line ScriptFault). after_line r p work (rest_from (parsing_after p l) work ls t)) e
+
+-- the input is over, and the header is whole
+pub end_of_input : (p : Parsing) (work : List WorkLine) → finished p ≡ Ok tt → script_from p work [] false ≡ Accepted (board_at p.stage) work
+end_of_input p work e = ap (λ (r : Result (Unit {0}) ScriptFault). ended_by r p work) e
+
+-- the input is over, and the header isn't whole
+pub refused_end : (p : Parsing) (work : List WorkLine) (fault : ScriptFault) → finished p ≡ Err fault → script_from p work [] false ≡ Refused fault (so_far p work)
+refused_end p work fault e = ap (λ (r : Result (Unit {0}) ScriptFault). ended_by r p work) e
+
+-- too many bytes were given
+pub too_long : (p : Parsing) (work : List WorkLine) → script_from p work [] true ≡ TooLong (so_far p work)
+too_long p work = refl
+
+-- the work lines are these, and more after them
+pub record IsMore (work done : List WorkLine) : Type 0 where
+  pub later : List WorkLine
+  pub whole : done ≡ later ++ work
+
+-- the work lines that were read of a script, whatever became of it
+abbrev pub work_in : Script → List WorkLine
+work_in (Accepted b done) = done
+work_in (Refused fault so_far) = so_far.work
+work_in (TooLong so_far) = so_far.work
+
+same_work : (work : List WorkLine) → IsMore work work
+same_work work = record { later = []; whole = refl }
+
+more_ended : (r : Result (Unit {0}) ScriptFault) (p : Parsing) (work : List WorkLine) → IsMore work (work_in (ended_by r p work))
+more_ended (Ok it) p work = same_work work
+more_ended (Err fault) p work = same_work work
+
+more_with : (said : Line) (work done : List WorkLine) → IsMore (work_with said work) done → IsMore work done
+more_with (line.Work actor w) work done m = record {
+  later = m.later ++ record { actor = actor; work = w } ∷ [];
+  whole = m.whole ∙ sym (append_assoc m.later (record { actor = actor; work = w } ∷ []) work);
+}
+more_with _ work done m = m
+
+more_after : (r : Result Line ScriptFault) (p : Parsing) (work : List WorkLine) (next : Line → Script) →
+    ((said : Line) → IsMore (work_with said work) (work_in (next said))) → IsMore work (work_in (after_line r p work next))
+more_after (Err fault) p work next h = same_work work
+more_after (Ok line.End) p work next h = same_work work
+more_after (Ok said) p work next h = more_with said work (work_in (next said)) (h said)
+
+-- whatever follows, the work lines of a script are those so far, and more after them
+pub more_from : (p : Parsing) (work : List WorkLine) (ls : List (List ℕ)) (t : Bool) → IsMore work (work_in (script_from p work ls t))
+more_from p work [] true = same_work work
+more_from p work [] false = more_ended (finished p) p work
+more_from p work (l ∷ ls) t = more_after (fed p l) p work _ (λ said. more_from (parsing_after p l) (work_with said work) ls t)

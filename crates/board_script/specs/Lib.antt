@@ -1,0 +1,9 @@
+-- Definitions of what a script says. Bytes and lines are in their own order; the work lines of a script, as the
+-- entries of an account, the newest first.
+pub mod Words
+pub mod Numbers
+pub mod Working
+pub mod Lines
+pub mod Stages
+pub mod Parsing
+pub mod Script

@@ -1,0 +1,148 @@
+-- What a line says.
+use Rattle.std.specs.Prelude.{ℕ, ◌≡◌, ◌==◌, ◌<◌, ◌≤◌, ◌&&◌, ◌||◌, not, nat_lt, true, false, if◌then◌else◌, List, [], ◌∷◌, length, codes, Option, Some, None}
+use Rattle.xv_model.specs.declared.board.Board.{Board}
+use Rattle.xv_model.specs.declared.operations.PqOp.{PqOp}
+use Rattle.xv_model.specs.declared.operations.PqOp.TheVariants.{Trigger, Eoi, Get, Set}
+use Rattle.xv_model.specs.declared.operations.Op.TheVariants as op
+use Rattle.xv_model.specs.Validity.{valid}
+use Rattle.board_script.specs.declared.stage.Turn.{Turn}
+use Rattle.board_script.specs.declared.stage.Turn.TheVariants as turns
+use Rattle.board_script.specs.declared.stage.Stage.{Stage}
+use Rattle.board_script.specs.declared.stage.Stage.TheVariants.{Header, Work, Ended}
+use Rattle.board_script.specs.declared.lines.Said.{Said}
+use Rattle.board_script.specs.declared.lines.Said.TheVariants as said
+use Rattle.board_script.specs.declared.work.Work.{Work as AWork}
+use Rattle.board_script.specs.Words.{are_printable, word_of, rest_of, is_blank, is_word}
+use Rattle.board_script.specs.Numbers.{bounded_of, pair_of}
+use Rattle.board_script.specs.Working.{IsFresh}
+
+-- what is read of a line: none where it is refused
+abbrev pub Reading : Type 0
+Reading = Option Said
+
+-- goes on with a number, where there is one
+abbrev pub with_number : Option ℕ → (ℕ → Reading) → Reading
+with_number (Some n) next = next n
+with_number None next = None
+
+-- a line of a name and a number from low on and below high
+abbrev pub number_line_of : List ℕ → ℕ → ℕ → List ℕ → List ℕ → Reading
+number_line_of name low high word rest =
+    if is_word name word then with_number (bounded_of (word_of rest) low high) (λ n. if is_blank (rest_of rest) then Some (said.Number n) else None)
+    else None
+
+-- the line of the pages of a source: how many, and whether a store is an EOI
+abbrev pub pages_line_of : List ℕ → List ℕ → Reading
+pages_line_of word rest =
+    if is_word (codes "esb") word then
+    with_number (bounded_of (word_of rest) 1 3) (λ pages.
+    with_number (bounded_of (word_of (rest_of rest)) 0 2) (λ eoi.
+    if is_blank (rest_of (rest_of rest)) then Some (said.Pages (pages == 2) (eoi == 1)) else None))
+    else None
+
+-- a line of the header, by its first word and what stands after it
+abbrev pub header_of : Turn → List ℕ → List ℕ → Reading
+header_of turns.Board word rest = number_line_of (codes "board") 1 2 word rest
+header_of turns.Sources word rest = number_line_of (codes "sources") 1 8193 word rest
+header_of turns.Processors word rest = number_line_of (codes "processors") 1 65 word rest
+header_of turns.Threads word rest = number_line_of (codes "threads") 1 33 word rest
+header_of turns.Ram word rest = number_line_of (codes "ram") 0 65 word rest
+header_of turns.Actors word rest = number_line_of (codes "actors") 1 17 word rest
+header_of turns.Esb word rest = pages_line_of word rest
+header_of turns.Go word rest = if is_word (codes "go") word && is_blank rest then Some said.Go else None
+
+-- the operation that sets a pair, by what stands after its name
+abbrev pub set_by : Option ℕ → List ℕ → Option PqOp
+set_by (Some pq) rest = if is_blank rest then Some (Set pq) else None
+set_by None rest = None
+
+abbrev pub set_of : List ℕ → Option PqOp
+set_of rest = set_by (pair_of (word_of rest)) (rest_of rest)
+
+-- the operation on a source's word, by its name and what stands after the source
+abbrev pub operation_of : List ℕ → List ℕ → Option PqOp
+operation_of name rest =
+    if is_word (codes "set") name then set_of rest
+    else (if not (is_blank rest) then None
+    else (if is_word (codes "trigger") name then Some Trigger
+    else (if is_word (codes "eoi") name then Some Eoi
+    else (if is_word (codes "get") name then Some Get else None))))
+
+-- a line of an actor that operates on a source's word once
+abbrev pub work_by : Option PqOp → ℕ → ℕ → Reading
+work_by (Some o) actor s = Some (said.Work actor (record { op = op.Pq s o; made = false }))
+work_by None actor s = None
+
+-- a line after the header, by its first word and what stands after it
+abbrev pub work_of : Board → List ℕ → List ℕ → Reading
+work_of b word rest =
+    if is_word (codes "end") word then (if is_blank rest then Some said.End else None)
+    else with_number (bounded_of word 0 b.limits.actors) (λ actor.
+    with_number (bounded_of (word_of (rest_of rest)) 0 b.limits.sources) (λ s.
+    work_by (operation_of (word_of rest) (rest_of (rest_of rest))) actor s))
+
+abbrev pub words_of : Stage → List ℕ → List ℕ → Reading
+words_of (Header turn b) word rest = header_of turn word rest
+words_of (Work b) word rest = work_of b word rest
+words_of (Ended b) word rest = Some said.Nothing
+
+-- a line without words, or whose first word begins with #, says nothing
+abbrev pub said_by : Stage → List ℕ → List ℕ → Reading
+said_by stage [] rest = Some said.Nothing
+said_by stage (b ∷ bs) rest = if b == 35 then Some said.Nothing else words_of stage (b ∷ bs) rest
+
+-- a line is refused where it is long or a byte is not printable, whatever it says
+abbrev pub checked_of : Stage → List ℕ → Reading
+checked_of stage line =
+    if nat_lt 256 (length line) || not (are_printable line) then None else said_by stage (word_of line) (rest_of line)
+
+-- what a line says at a stage; after the end nothing does
+abbrev pub said_of : Stage → List ℕ → Reading
+said_of (Ended b) line = Some said.Nothing
+said_of stage line = checked_of stage line
+
+-- a number from low on and below high
+abbrev pub IsNumber : ℕ → ℕ → Said → Type 0
+IsNumber low high (said.Number n) = (low ≤ n) × (n < high)
+IsNumber low high _ = ⊥
+
+abbrev pub IsPages : Said → Type 0
+IsPages (said.Pages two_pages store_eoi) = Unit {0}
+IsPages _ = ⊥
+
+abbrev pub IsGo : Said → Type 0
+IsGo said.Go = Unit {0}
+IsGo _ = ⊥
+
+-- what a line of the header says has the form and the range of its turn
+abbrev pub IsHeaderSaid : Turn → Said → Type 0
+IsHeaderSaid turns.Board it = IsNumber 1 2 it
+IsHeaderSaid turns.Sources it = IsNumber 1 8193 it
+IsHeaderSaid turns.Processors it = IsNumber 1 65 it
+IsHeaderSaid turns.Threads it = IsNumber 1 33 it
+IsHeaderSaid turns.Ram it = IsNumber 0 65 it
+IsHeaderSaid turns.Actors it = IsNumber 1 17 it
+IsHeaderSaid turns.Esb it = IsPages it
+IsHeaderSaid turns.Go it = IsGo it
+
+-- a work line is by an actor of the board, its operation is valid there, and it has made nothing yet
+pub record IsWork (b : Board) (actor : ℕ) (work : AWork) : Type 0 where
+  pub actor_is : actor < b.limits.actors
+  pub valid_op : valid b work.op ≡ true
+  pub fresh : IsFresh work
+
+-- what a line after the header says is the end, or a work line
+abbrev pub IsWorkSaid : Board → Said → Type 0
+IsWorkSaid b said.End = Unit {0}
+IsWorkSaid b (said.Work actor work) = IsWork b actor work
+IsWorkSaid b _ = ⊥
+
+abbrev pub IsWordsSaid : Stage → Said → Type 0
+IsWordsSaid (Header turn b) it = IsHeaderSaid turn it
+IsWordsSaid (Work b) it = IsWorkSaid b it
+IsWordsSaid (Ended b) it = ⊥
+
+-- what a line says fits its stage
+abbrev pub IsSaidAt : Stage → Said → Type 0
+IsSaidAt stage said.Nothing = Unit {0}
+IsSaidAt stage it = IsWordsSaid stage it
