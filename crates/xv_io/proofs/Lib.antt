@@ -1,3 +1,4 @@
 pub mod Appending
 pub mod Cutting
 pub mod Places
+pub mod Puts

@@ -1,7 +1,9 @@
 -- What a writer has gathered, behind what its sink holds.
-use Rattle.std.specs.Prelude.{ℕ, List, Option}
-use Rattle.std.specs.Io.KnownBytes.{append_known}
+use Rattle.std.specs.Prelude.{ℕ, ◌≡◌, ◌++◌, List, Option}
+use Rattle.std.specs.Io.KnownBytes.{Appends}
 
--- what was told to a writer: what its sink holds, and then what is gathered
-abbrev pub told : List ℕ → Option (List ℕ) → Option (List ℕ)
-told gathered held = append_known held gathered
+-- a text was put: of what was gathered and the text, the sink got the first bytes, and the rest is gathered now
+pub record Puts (gathered : List ℕ) (held : Option (List ℕ)) (gathered' : List ℕ) (held' : Option (List ℕ)) (text : List ℕ) : Type 0 where
+  pub sent : List ℕ
+  pub appended : Appends held held' sent
+  pub kept : sent ++ gathered' ≡ gathered ++ text

@@ -3,7 +3,7 @@
 ghost use Rattle.std.specs.Prelude.{◌≡◌, ℕ, ◌<◌, ◌≤◌, List, [], ◌++◌, take, OnOk, OnErr, length};
 ghost use Rattle.std.specs.Io.KnownBytes.{Appends};
 ghost use Rattle.xv_io.specs.Faults.{HasRisen, AppendsPrefix};
-ghost use Rattle.xv_io.specs.Gathered.{told};
+ghost use Rattle.xv_io.specs.Gathered.{Puts};
 
 use crate::{Failed, Sink, write_whole};
 use std::marker::Model;
@@ -43,8 +43,7 @@ impl Writer {
     /// Appends a text, and writes all that is gathered where that is 16 KiB or more. What an `Err` finds unwritten is lost.
     pub fn put<K: Sink>(&mut self, sink: &mut K, text: &[u8]) -> Result<(), Failed>
         requires { length text.now ≤ 2048 }
-        ensures ok { OnOk result (Appends (told self.old (K.held sink.old)) (told self.new (K.held sink.new)) text.now) }
-        ensures grown { OnOk result (AppendsPrefix (K.held sink.old) (K.held sink.new) (self.old ++ text.now)) }
+        ensures ok { OnOk result (Puts self.old (K.held sink.old) self.new (K.held sink.new) text.now) }
         ensures err { OnErr result (AppendsPrefix (K.held sink.old) (K.held sink.new) (self.old ++ text.now)) }
         ensures lost { OnErr result (self.new ≡ []) }
         ensures failed { OnErr result (HasRisen (K.faults sink.old) (K.faults sink.new)) }
