@@ -1,0 +1,102 @@
+//! The lines of a source, and what they say.
+
+ghost use Rattle.std.specs.Prelude.{◌≡◌, ◌<◌, ◌≤◌, [], length, false, true, IfOk, IfErr, MatchResult, IfSome, IfNone, OnOk, OnErr};
+ghost use Rattle.std.specs.Io.KnownBytes.{IsAtEnd};
+ghost use Rattle.xv_io.specs.Faults.{HasRisen};
+ghost use Rattle.xv_io.specs.Gathered.{Puts};
+ghost use Rattle.board_script.specs.Parsing.{new_parsing};
+ghost use Rattle.board_script.specs.Stages.{whole_board};
+ghost use Rattle.xive_cli.specs.Inputs.{IsOpen, Understands, IsSaidAt, Rises, NeedsMore, CannotGoOn, SaysKnown, StopsKnown, IfStillTold};
+
+use crate::output::Output;
+use crate::stop::Stop;
+use board_script::lines::Line;
+use board_script::parser::Parser;
+use xv_io::{LONGEST, LineReader, Next, Sink, Source};
+
+/// What reads a script: the reader of its lines, and the parser that they are fed to.
+#[derive(Drop)]
+pub struct Input {
+    pub reader: LineReader,
+    pub parser: Parser,
+}
+
+/// A line that is too long. The parser refuses each of them alike.
+const LONG_LINE: [u8; LONGEST + 1] = [b'#'; LONGEST + 1];
+
+impl Input {
+    pub fn new() -> Input
+        ensures ahead { result.reader.ahead ≡ [] }
+        ensures given { result.reader.given ≡ 0 }
+        ensures ended { result.reader.ended ≡ false }
+        ensures parser { result.parser ≡ new_parsing }
+    {
+        Input {
+            reader: LineReader::new(),
+            parser: Parser::new(false),
+        }
+    }
+}
+
+/// What the next line says, as far as it is read ahead; none where more has to be read before that is known.
+fn next_line(input: &mut Input) -> Result<Option<Line>, Stop>
+    requires { IsOpen input.old.parser.stage }
+    ensures line { IfOk result (λ o. IfSome o (λ said. Understands input.old said input.new)) }
+    ensures fits { IfOk result (λ o. IfSome o (λ said. IsSaidAt input.old said input.new)) }
+    ensures rises { IfOk result (λ o. IfSome o (λ said. Rises input.old said input.new)) }
+    ensures more { IfOk result (λ o. IfNone o (NeedsMore input.old input.new)) }
+    ensures stop { IfErr result (λ stop. CannotGoOn stop input.old) }
+    ensures ended { input.new.reader.ended ≡ input.old.reader.ended }
+    ensures bounded { input.new.reader.given ≤ 16777216 }
+{
+    match input.reader.next() {
+        Next::Line => match input.parser.feed(input.reader.line()) {
+            Ok(said) => Ok(Some(said)),
+            Err(fault) => Err(Stop::Refused(fault)),
+        },
+        Next::Long => match input.parser.feed(&LONG_LINE) {
+            Ok(_) => unreachable!(),
+            Err(fault) => Err(Stop::Refused(fault)),
+        },
+        Next::TooMany => Err(Stop::TooLong),
+        Next::End => match input.parser.finish() {
+            Ok(()) => Ok(Some(Line::End)),
+            Err(fault) => Err(Stop::Refused(fault)),
+        },
+        Next::More => Ok(None),
+    }
+}
+
+/// Reads what the next line says. All that is gathered is written before the source is asked for more.
+pub fn read_line<S: Source, K: Sink>(
+    input: &mut Input,
+    source: &mut S,
+    output: &mut Output,
+    sink: &mut K,
+) -> Result<Line, Stop>
+    requires open { IsOpen input.old.parser.stage }
+    requires ended { input.old.reader.ended ≡ true → IsAtEnd (S.left source.old) }
+    ensures line { IfOk result (λ said. SaysKnown input.old (S.left source.old) said input.new (S.left source.new)) }
+    ensures fits { IfOk result (λ said. IsSaidAt input.old said input.new) }
+    ensures rises { IfOk result (λ said. Rises input.old said input.new) }
+    ensures stop { IfErr result (λ stop. StopsKnown stop (whole_board input.old.parser.stage) input.old (S.left source.old) (S.faults source.old) (S.faults source.new) (K.faults sink.old) (K.faults sink.new)) }
+    ensures ended { input.new.reader.ended ≡ true → IsAtEnd (S.left source.new) }
+    ensures bounded { input.new.reader.given ≤ 16777216 }
+    ensures puts { let put = Puts output.old.writer (K.held sink.old) output.new.writer (K.held sink.new) [] in MatchResult result (λ _. put) (λ stop. IfStillTold stop put) }
+    ensures source_count { S.faults source.old ≤ S.faults source.new }
+    ensures sink_count { K.faults sink.old ≤ K.faults sink.new }
+{
+    loop {
+        match next_line(input) {
+            Ok(Some(said)) => return Ok(said),
+            Ok(None) => {}
+            Err(stop) => return Err(stop),
+        }
+        if output.writer.flush(sink).is_err() {
+            return Err(Stop::WriteFault);
+        }
+        if input.reader.fill(source).is_err() {
+            return Err(Stop::ReadFault);
+        }
+    }
+}
