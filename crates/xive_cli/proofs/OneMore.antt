@@ -1,0 +1,46 @@
+-- One more entry of a work line.
+use Rattle.std.proofs.Common.{ℕ, ◌≡◌, ◌+◌, ◌≤◌, ◌<◌, List, [], ◌∷◌, ◌++◌, Option, Some, None, true, refl, sym, ◌∙◌, ap, subst, arith}
+use Rattle.xv_io.specs.Gathered.{Puts}
+use Rattle.xv_io.proofs.Puts.{puts_both}
+use Rattle.xv_model.specs.declared.board.Board.{Board}
+use Rattle.xv_model.specs.declared.operations.Op.{Op}
+use Rattle.xv_model.specs.declared.outcomes.Outcome.{Outcome}
+use Rattle.xv_model.specs.declared.entries.Entry.{Entry}
+use Rattle.xv_model.specs.Start.{Start}
+use Rattle.xv_model.specs.Legal.{IsLegal}
+use Rattle.xv_model.specs.Validity.{valid}
+use Rattle.xv_model.specs.Text.{entry_line, next_index}
+use Rattle.board_script.specs.declared.work.Work.{Work}
+use Rattle.board_script.specs.Script.{WorkLine, line_for}
+use Rattle.board_script.specs.Working.{HasMade, next_op}
+use Rattle.xive_cli.specs.declared.machine.Machine.{Machine}
+use Rattle.xive_cli.specs.Standing.{StandsFor}
+use Rattle.xive_cli.specs.Running.{Makes, RunsPart, part_text}
+
+-- one more entry of a line was made, and its line was put
+pub one_more_entry : (w : WorkLine) (going going' : Work) (m m' : Machine) (op : Op) (outcome : Outcome) (w0 w1 w2 : List ℕ) (k0 k1 k2 : Option (List ℕ)) (z : Start) (h part : List Entry) →
+    RunsPart z (line_for w) m w0 k0 w1 k1 h part → HasMade going w.work part →
+    next_op w.work part (part ++ h) ≡ Some op →
+    ((x : Entry) → x.op ≡ op → HasMade going' w.work (x ∷ part)) →
+    w.actor < m.board.limits.actors → valid m.board op ≡ true →
+    Makes m m' (record { actor = w.actor; op = op; outcome = outcome }) w1 k1 w2 k2 →
+    (part : List Entry) × RunsPart z (line_for w) m' w0 k0 w2 k2 h part × HasMade going' w.work part
+one_more_entry w going going' m m' op outcome w0 w1 w2 k0 k1 k2 z h part r made next goes actor_is valid_op makes =
+    (
+      record { actor = w.actor; op = op; outcome = outcome } ∷ part,
+      record {
+        begins = (r.begins, refl, next);
+        legal = (
+          r.legal,
+          record {
+            actor = subst (λ (b : Board). w.actor < b.limits.actors) r.stands.board actor_is;
+            valid_op = subst (λ (b : Board). valid b op ≡ true) r.stands.board valid_op;
+            outcome = makes.outcome z (part ++ h) r.stands;
+          },
+        );
+        stands = makes.stands z (part ++ h) r.stands;
+        puts = puts_both w0 w1 w2 k0 k1 k2 (part_text z h part) (entry_line (next_index z (part ++ h)) (record { actor = w.actor; op = op; outcome = outcome })) r.puts
+            (subst (λ n. Puts w1 k1 w2 k2 (entry_line n (record { actor = w.actor; op = op; outcome = outcome }))) r.stands.index makes.puts);
+      },
+      goes (record { actor = w.actor; op = op; outcome = outcome }) refl,
+    )
