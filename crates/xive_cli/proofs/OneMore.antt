@@ -25,22 +25,21 @@ pub one_more_entry : (w : WorkLine) (going going' : Work) (m m' : Machine) (op :
     w.actor < m.board.limits.actors → valid m.board op ≡ true →
     Makes m m' (record { actor = w.actor; op = op; outcome = outcome }) w1 k1 w2 k2 →
     (part : List Entry) × RunsPart z (line_for w) m' w0 k0 w2 k2 h part × HasMade going' w.work part
-one_more_entry w going going' m m' op outcome w0 w1 w2 k0 k1 k2 z h part r made next goes actor_is valid_op makes =
-    (
-      record { actor = w.actor; op = op; outcome = outcome } ∷ part,
+one_more_entry w going going' m m' op outcome w0 w1 w2 k0 k1 k2 z h part r made next goes actor_is valid_op makes = (
+  record { actor = w.actor; op = op; outcome = outcome } ∷ part,
+  record {
+    begins = (r.begins, refl, next);
+    legal = (
+      r.legal,
       record {
-        begins = (r.begins, refl, next);
-        legal = (
-          r.legal,
-          record {
-            actor = subst (λ (b : Board). w.actor < b.limits.actors) r.stands.board actor_is;
-            valid_op = subst (λ (b : Board). valid b op ≡ true) r.stands.board valid_op;
-            outcome = makes.outcome z (part ++ h) r.stands;
-          },
-        );
-        stands = makes.stands z (part ++ h) r.stands;
-        puts = puts_both w0 w1 w2 k0 k1 k2 (part_text z h part) (entry_line (next_index z (part ++ h)) (record { actor = w.actor; op = op; outcome = outcome })) r.puts
-            (subst (λ n. Puts w1 k1 w2 k2 (entry_line n (record { actor = w.actor; op = op; outcome = outcome }))) r.stands.index makes.puts);
+        actor = subst (λ (b : Board). w.actor < b.limits.actors) r.stands.board actor_is;
+        valid_op = subst (λ (b : Board). valid b op ≡ true) r.stands.board valid_op;
+        outcome = makes.outcome z (part ++ h) r.stands;
       },
-      goes (record { actor = w.actor; op = op; outcome = outcome }) refl,
-    )
+    );
+    stands = makes.stands z (part ++ h) r.stands;
+    puts = puts_both w0 w1 w2 k0 k1 k2 (part_text z h part) (entry_line (next_index z (part ++ h)) (record { actor = w.actor; op = op; outcome = outcome })) r.puts
+        (subst (λ n. Puts w1 k1 w2 k2 (entry_line n (record { actor = w.actor; op = op; outcome = outcome }))) r.stands.index makes.puts);
+  },
+  goes (record { actor = w.actor; op = op; outcome = outcome }) refl,
+)

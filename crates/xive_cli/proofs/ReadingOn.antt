@@ -19,7 +19,7 @@ use Rattle.xive_cli.specs.declared.stop.Stop.TheVariants.{ReadFault, WriteFault,
 use Rattle.xive_cli.specs.Inputs.{script_left, Says, SaysKnown, Understands, StopsAt, StopsKnown, CannotGoOn, GoesOn, IfStillTold}
 
 -- a count that rose from a later value rose from an earlier one
-risen_from : (a b c : ℕ) → a ≤ b → HasRisen b c → HasRisen a c
+pub risen_from : (a b c : ℕ) → a ≤ b → HasRisen b c → HasRisen a c
 risen_from a b c l (inl more) = inl (omega arith)
 risen_from a b c l (inr last) = inr last
 

@@ -129,7 +129,7 @@ pub in_range : (b : Board) (p : Op) (s : ℕ) (o : PqOp) → p ≡ op.Pq s o →
 in_range b p s o e v = let both = and_parts (nat_lt s b.limits.sources) (valid_pq o) (subst (λ p. valid b p ≡ true) e v) in (ltb-true s b.limits.sources both.0, both.1)
 
 -- no number is in no spans
-in_none : (spans : Spans) (n : ℕ) → spans.count ≡ 0 → is_in spans n ≡ false
+pub in_none : (spans : Spans) (n : ℕ) → spans.count ≡ 0 → is_in spans n ≡ false
 in_none spans n e = subst (λ count. list_any (λ span. nat_le span.first n && nat_le n span.last) (take count spans.spans) ≡ false) (sym e) refl
 
 nothing_out : (n : ℕ) → sum_below (λ s. 0 - 0) n ≡ 0

@@ -1,6 +1,6 @@
 pub mod States
 pub mod Held
 pub mod Standing
-pub mod Lines
+pub mod Refusals
 pub mod Inputs
 pub mod Running

@@ -1,5 +1,6 @@
 -- Runs of a script.
 use Rattle.std.specs.Prelude.{ℕ, ◌≡◌, ◌≤◌, List, [], ◌∷◌, ◌++◌, map, Option, Some, None, ⊤}
+use Rattle.xv_io.specs.Faults.{HasRisen}
 use Rattle.xv_io.specs.Gathered.{Puts}
 use Rattle.xv_model.specs.declared.board.Board.{Board}
 use Rattle.xv_model.specs.declared.entries.Entry.{Entry}
@@ -15,7 +16,7 @@ use Rattle.xive_cli.specs.declared.machine.Machine.{Machine}
 use Rattle.xive_cli.specs.declared.stop.Stop.{Stop}
 use Rattle.xive_cli.specs.declared.stop.Stop.TheVariants.{ReadFault, WriteFault, Refused, TooLong}
 use Rattle.xive_cli.specs.Standing.{StandsFor}
-use Rattle.xive_cli.specs.Inputs.{script_left, GoesOn, StopsKnown}
+use Rattle.xive_cli.specs.Inputs.{script_left}
 
 -- a machine made an entry: it is legal after each account that the machine stood for, which the machine stands for with it, and its line was put
 pub record Makes (m m' : Machine) (x : Entry) (gathered : List ℕ) (held : Option (List ℕ)) (gathered' : List ℕ) (held' : Option (List ℕ)) : Type 0 where
@@ -75,7 +76,7 @@ pub record HasRunTo (b : Board) (i : Input) (left : Option (List ℕ)) (m : Mach
 
 -- why the work lines of a script stopped, after those which have run
 abbrev pub StopsAtWork : Stop → Board → Input → Option (List ℕ) → Machine → List ℕ → Option (List ℕ) → List ℕ → Option (List ℕ) → ℕ → ℕ → ℕ → ℕ → Type 0
-StopsAtWork ReadFault b i left m w held w' held' s s' k k' = ⊤
-StopsAtWork WriteFault b i left m w held w' held' s s' k k' = ⊤
+StopsAtWork ReadFault b i left m w held w' held' s s' k k' = HasRisen s s'
+StopsAtWork WriteFault b i left m w held w' held' s s' k k' = HasRisen k k'
 StopsAtWork (Refused fault) b i left m w held w' held' s s' k k' = HasRunTo b i left m w held w' held' (λ work. Rejected fault (record { board = Some b; work = work }))
 StopsAtWork TooLong b i left m w held w' held' s s' k k' = HasRunTo b i left m w held w' held' (λ work. Exceeds (record { board = Some b; work = work }))

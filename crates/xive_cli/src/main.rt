@@ -1,11 +1,13 @@
 //! The program.
 #![tactic(auto)]
 
+mod command;
 mod input;
 mod known;
 mod machine;
 mod output;
 mod printer;
+mod report;
 mod run;
 mod state;
 mod stop;

@@ -2,11 +2,12 @@
 
 ghost use Rattle.std.specs.Prelude.{◌≡◌, ◌+◌, ◌<◌, ◌≤◌, ◌++◌, [], length, decimal, codes, IsTrue, false, if◌then◌else◌, Bool};
 ghost use Rattle.arrayvec.specs.ArrayVec.{array_vec_len};
-ghost use Rattle.xv_model.specs.Text.{pair_text, pq_op_text, op_text, forward_text, outcome_text, entry_line, source_text, ring_line, pages_text, counts_text, rest_text, header_text, HasPairs};
+ghost use Rattle.xv_model.specs.Text.{pair_text, pq_op_text, op_text, forward_text, outcome_text, entry_line, source_text, end_line, saved_line, ring_line, last_lines, pages_text, counts_text, rest_text, header_text, HasPairs};
 ghost use Rattle.xv_model.specs.Validity.{valid, valid_pq};
-ghost use Rattle.xive_cli.specs.Lines.{end_line, saved_line, flight_lines};
+ghost use Rattle.xive_cli.specs.Refusals.{cause_text, refusal_line};
 
 use arrayvec::ArrayVec;
+use board_script::faults::{Cause, ScriptFault};
 use itoa::Buffer;
 use xv_model::board::Board;
 use xv_model::entries::Entry;
@@ -212,13 +213,59 @@ pub fn add_ring(line: &mut Text, t: u32)
 }
 
 /// The last lines of the report: no message is in flight, and this many notices are out.
-pub fn add_flight(line: &mut Text, notices: u64)
+pub fn add_last(line: &mut Text, notices: u64)
     requires { array_vec_len line.old ≡ 0 }
-    ensures { line.new.items ≡ line.old.items ++ flight_lines notices }
+    ensures { line.new.items ≡ line.old.items ++ last_lines 0 notices }
 {
     add(line, b"flight ");
     add_number(line, 0);
     add(line, b"\nnotices ");
     add_number(line, notices);
     add(line, b"\ndone\n");
+}
+
+/// The name of a cause.
+fn cause_name(cause: Cause) -> &'static [u8]
+    ensures name { result.now ≡ cause_text cause }
+    ensures short { length result.now ≤ 17 }
+{
+    match cause {
+        Cause::LongLine => b"long-line",
+        Cause::BadByte => b"bad-byte",
+        Cause::WrongPlace => b"wrong-place",
+        Cause::UnknownWord => b"unknown-word",
+        Cause::MissingWord => b"missing-word",
+        Cause::ExtraWord => b"extra-word",
+        Cause::BadNumber => b"bad-number",
+        Cause::OutOfRange => b"out-of-range",
+        Cause::NotLevel => b"not-level",
+        Cause::BadEnd => b"bad-end",
+        Cause::NoGo => b"no-go",
+        Cause::NotInLive => b"not-in-live",
+        Cause::TooManyLines => b"too-many-lines",
+        Cause::TooManyForwards => b"too-many-forwards",
+        Cause::NotBuilt => b"not-built",
+    }
+}
+
+/// The line that a run ends with where a line of its script is refused.
+pub fn add_refusal(line: &mut Text, fault: ScriptFault)
+    requires { array_vec_len line.old ≡ 0 }
+    ensures { line.new.items ≡ line.old.items ++ refusal_line fault }
+{
+    add(line, b"refused line ");
+    add_number(line, fault.line as u64);
+    add(line, b" byte ");
+    add_number(line, fault.byte as u64);
+    add(line, b" ");
+    add(line, cause_name(fault.cause));
+    add(line, b"\n");
+}
+
+/// The line that a run ends with where too many bytes of lines were given.
+pub fn add_too_long(line: &mut Text)
+    requires { array_vec_len line.old ≡ 0 }
+    ensures { line.new.items ≡ line.old.items ++ codes "too-long\n" }
+{
+    add(line, b"too-long\n");
 }

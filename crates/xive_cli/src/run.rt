@@ -13,7 +13,8 @@ ghost use Rattle.xv_model.specs.Boards.{IsBoard, IsPlain};
 ghost use Rattle.xv_model.specs.Start.{start};
 ghost use Rattle.xive_cli.specs.Standing.{StandsFor};
 ghost use Rattle.xive_cli.specs.Inputs.{GoesOn, StopsKnown, IfStillTold};
-ghost use Rattle.xive_cli.specs.Running.{RunsLine, Makes};
+ghost use Rattle.xive_cli.specs.Running.{RunsLine, Makes, HasRunTo, StopsAtWork};
+ghost use Rattle.board_script.specs.Script.{Accepted};
 
 use crate::input::{Input, read_line};
 use crate::machine::Machine;
@@ -105,4 +106,37 @@ fn run_line<K: Sink>(
         last = Some(outcome);
     }
     Ok(())
+}
+
+/// Runs the work lines of a script, on a machine on which nothing has happened.
+pub fn run_work<S: Source, K: Sink>(
+    input: &mut Input,
+    source: &mut S,
+    machine: &mut Machine,
+    output: &mut Output,
+    sink: &mut K,
+) -> Result<(), Stop>
+    requires stage { input.old.parser.stage ≡ AtWork machine.old.board }
+    requires ended { input.old.reader.ended ≡ true → IsAtEnd (S.left source.old) }
+    requires given { input.old.reader.given ≤ 16777216 }
+    requires stands { StandsFor machine.old (start machine.old.board) [] }
+    ensures done { OnOk result (HasRunTo machine.old.board input.old (S.left source.old) machine.new output.old.writer (K.held sink.old) output.new.writer (K.held sink.new) (Accepted machine.old.board)) }
+    ensures stop { IfErr result (λ stop. StopsAtWork stop machine.old.board input.old (S.left source.old) machine.new output.old.writer (K.held sink.old) output.new.writer (K.held sink.new) (S.faults source.old) (S.faults source.new) (K.faults sink.old) (K.faults sink.new)) }
+    ensures source_count { S.faults source.old ≤ S.faults source.new }
+    ensures sink_count { K.faults sink.old ≤ K.faults sink.new }
+{
+    loop {
+        match read_line(input, source, output, sink) {
+            Ok(Line::Work { actor, work }) => {
+                match run_line(machine, output, sink, actor, work) {
+                    Ok(()) => {}
+                    Err(_) => return Err(Stop::WriteFault),
+                }
+            }
+            Ok(Line::Nothing) => {}
+            Ok(Line::End) => return Ok(()),
+            Ok(_) => unreachable!(),
+            Err(stop) => return Err(stop),
+        }
+    }
 }

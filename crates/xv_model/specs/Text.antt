@@ -67,23 +67,34 @@ source_text s q on forwarded routed =
 abbrev pub source_line : Start → List Entry → ℕ → List ℕ
 source_line z h s = source_text s (pq z h s) (asserted z h s) (forwards z h s) (routes z h s)
 
--- the line of a processor, where it is connected: no operation that is built moves one, so it is saved with nothing pending
+-- the line that counts the entries
+abbrev pub end_line : ℕ → List ℕ
+end_line n = codes "end " ++ decimal n ++ codes "\n"
+
+-- the line of a processor that is saved with nothing pending
+abbrev pub saved_line : ℕ → List ℕ
+saved_line v = codes "processor " ++ decimal v ++ codes " saved 0x0 0x0 0x0\n"
+
+-- the line of a processor, where it is connected: no operation that is built moves one
 abbrev pub processor_line : Start → ℕ → List ℕ
-processor_line z v = if z.is_connected v then codes "processor " ++ decimal v ++ codes " saved 0x0 0x0 0x0\n" else []
+processor_line z v = if z.is_connected v then saved_line v else []
 
 -- the line of a thread's ring: no operation that is built uses one
 abbrev pub ring_line : ℕ → List ℕ
 ring_line t = codes "ring " ++ decimal t ++ codes " 0x0 0x0 0x0 0xff 0x0\n"
 
+-- the last lines: how many messages are in flight, and how many notices are out
+abbrev pub last_lines : ℕ → ℕ → List ℕ
+last_lines messages notices = codes "flight " ++ decimal messages ++ codes "\nnotices " ++ decimal notices ++ codes "\ndone\n"
+
 -- the report of an account: its end, its sources, processors and rings, and what is on its way
 abbrev pub report_text : Start → List Entry → List ℕ
 report_text z h =
-    codes "end " ++ decimal (next_index z h) ++ codes "\n"
+    end_line (next_index z h)
     ++ texts_below (source_line z h) z.board.limits.sources
     ++ texts_below (processor_line z) z.board.limits.processors
     ++ texts_below ring_line z.board.limits.threads
-    ++ codes "flight " ++ decimal (length z.flight) ++ codes "\n"
-    ++ codes "notices " ++ decimal (all_outstanding z h) ++ codes "\ndone\n"
+    ++ last_lines (length z.flight) (all_outstanding z h)
 
 -- how many pages a source has, and whether a store is an EOI
 abbrev pub pages_text : Board → List ℕ

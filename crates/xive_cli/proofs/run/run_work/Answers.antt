@@ -1,0 +1,49 @@
+use Rattle.std.proofs.Common.{◌≡◌, ◌<◌, ◌+◌, ◌≤◌, refl, sym, ◌∙◌, ap, subst, arith, rules}
+use Rattle.board_script.specs.declared.lines.Line.TheVariants as line
+use Rattle.board_script.specs.declared.stage.Stage.{Stage}
+use Rattle.board_script.specs.declared.stage.Stage.TheVariants.{Work as AtWork}
+use Rattle.board_script.specs.Stages.{IsLineAt}
+use Rattle.board_script.specs.Lines.{IsWork}
+use Rattle.board_script.specs.Working.{steps_left}
+use Rattle.xive_cli.specs.Inputs.{SaysKnown, IsSaidAt, Rises}
+use Rattle.xive_cli.proofs.Steps.{nothing_ran, one_nothing, one_work, all_ran, stopped}
+use Rattle.xive_cli.proofs.run.run_work.Goals as goal
+
+pub loop-actor-preserved-in-Ok-run_line : goal.loop-actor-preserved-in-Ok-run_line
+loop-actor-preserved-in-Ok-run_line g c = ?
+
+pub loop-actor-preserved : goal.loop-actor-preserved
+loop-actor-preserved g c =
+    let i = c.loop-actor.invariant in
+    let e = c.in-Ok-Nothing.ensures {u = tt} in
+    let said = subst (λ said. SaysKnown c.loop-actor.input (g.S.Source.left c.loop-actor.source) said c.read_line.new.input (g.S.Source.left c.read_line.new.source)) c.in-Ok-Nothing.field-0-is e.line in
+    let fits = subst (λ said. IsSaidAt c.loop-actor.input said c.read_line.new.input) c.in-Ok-Nothing.field-0-is e.fits in
+    let rises = subst (λ said. Rises c.loop-actor.input said c.read_line.new.input) c.in-Ok-Nothing.field-0-is e.rises in
+    record {
+      runs = one_nothing c.args.machine.now.board c.args.input.now c.loop-actor.input c.read_line.new.input (g.S.Source.left c.args.source.now) (g.S.Source.left c.loop-actor.source) (g.S.Source.left c.read_line.new.source) c.loop-actor.machine
+          c.args.output.now.writer c.loop-actor.output.writer c.read_line.new.output.writer (g.K.Sink.held c.args.sink.now) (g.K.Sink.held c.loop-actor.sink) (g.K.Sink.held c.read_line.new.sink) i.runs said e.puts;
+      stage = subst (λ (stage : Stage). IsLineAt stage c.read_line.new.input.parser.stage line.Nothing) i.stage fits;
+      board = i.board;
+      ended = e.ended;
+      given = e.bounded;
+      few = omega (arith, rises);
+      source_count = omega (arith, e.source_count);
+      sink_count = omega (arith, e.sink_count);
+    }
+
+pub returns-in-Ok-End-clause-done : goal.returns-in-Ok-End-clause-done
+returns-in-Ok-End-clause-done g c =
+    let i = c.loop-actor.invariant in
+    let e = c.in-Ok-End.ensures {u = tt} in
+    let said = subst (λ said. SaysKnown c.loop-actor.input (g.S.Source.left c.loop-actor.source) said c.read_line.new.input (g.S.Source.left c.read_line.new.source)) c.in-Ok-End.field-0-is e.line in
+    all_ran c.args.machine.now.board c.args.input.now c.loop-actor.input c.read_line.new.input (g.S.Source.left c.args.source.now) (g.S.Source.left c.loop-actor.source) (g.S.Source.left c.read_line.new.source) c.loop-actor.machine
+    c.args.output.now.writer c.loop-actor.output.writer c.read_line.new.output.writer (g.K.Sink.held c.args.sink.now) (g.K.Sink.held c.loop-actor.sink) (g.K.Sink.held c.read_line.new.sink) i.stage i.runs said e.puts
+
+pub returns-in-Err-clause-stop : goal.returns-in-Err-clause-stop
+returns-in-Err-clause-stop g c =
+    let i = c.loop-actor.invariant in
+    let e = c.in-Err.ensures {u = tt} in
+    stopped c.args.machine.now.board c.args.input.now c.loop-actor.input (g.S.Source.left c.args.source.now) (g.S.Source.left c.loop-actor.source) c.loop-actor.machine
+    c.args.output.now.writer c.loop-actor.output.writer c.read_line.new.output.writer (g.K.Sink.held c.args.sink.now) (g.K.Sink.held c.loop-actor.sink) (g.K.Sink.held c.read_line.new.sink) c.in-Err.stop
+    (g.S.Source.faults c.args.source.now) (g.S.Source.faults c.loop-actor.source) (g.S.Source.faults c.read_line.new.source) (g.K.Sink.faults c.args.sink.now) (g.K.Sink.faults c.loop-actor.sink) (g.K.Sink.faults c.read_line.new.sink)
+    i.stage i.source_count i.sink_count i.runs e.stop e.puts
