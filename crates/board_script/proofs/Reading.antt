@@ -1,18 +1,21 @@
 -- Reading a script line after line, and a work line step after step.
-use Rattle.std.proofs.Common.{ℕ, ◌≡◌, Bool, true, false, List, [], ◌∷◌, ◌++◌, Ok, Err, refl, sym, ◌∙◌, ap, append_assoc}
+use Rattle.std.proofs.Common.{Option, Some, None, ℕ, ◌≡◌, Bool, true, false, List, [], ◌∷◌, ◌++◌, Ok, Err, refl, sym, ◌∙◌, ap, append_assoc}
 use Rattle.std.specs.declared.result.Result.{Result}
 use Rattle.xv_model.specs.declared.board.Board.{Board}
 use Rattle.board_script.specs.declared.faults.ScriptFault.{ScriptFault}
 use Rattle.board_script.specs.declared.lines.Line.{Line}
 use Rattle.board_script.specs.declared.lines.Line.TheVariants as line
-use Rattle.board_script.specs.declared.work.Work.{Work}
+use Rattle.board_script.specs.declared.work.Work.{Work as AWork}
 use Rattle.board_script.specs.Working.{HasMade, IsFresh}
-use Rattle.board_script.specs.Stages.{board_at}
-use Rattle.board_script.specs.Parsing.{Parsing, fed, parsing_after, finished}
+use Rattle.board_script.specs.Stages.{board_at, whole_board, stage_by, line_by}
+use Rattle.board_script.specs.Lines.{Reading, said_of}
+use Rattle.board_script.specs.declared.stage.Stage.TheVariants.{Work}
+use Rattle.board_script.specs.declared.lines.Said.TheVariants as say
+use Rattle.board_script.specs.Parsing.{Parsing, fed, fed_by, answer_by, parsing_after, parsing_by, parsing_from, finished}
 use Rattle.board_script.specs.Script.{Script, Accepted, Refused, TooLong, WorkLine, so_far, work_with, ended_by, after_line, script_from}
 
 -- a fresh line has made nothing
-pub nothing_made : (w : Work) → IsFresh w → HasMade w w []
+pub nothing_made : (w : AWork) → IsFresh w → HasMade w w []
 nothing_made w fresh = (refl, fresh)
 
 -- the line isn't the end of a script
@@ -52,7 +55,7 @@ pub go_line : (p : Parsing) (work : List WorkLine) (l : List ℕ) (ls : List (Li
     fed p l ≡ Ok (line.Go b) → script_from p work (l ∷ ls) t ≡ script_from (parsing_after p l) work ls t
 go_line p work l ls t b e = one_line p work l ls t (line.Go b) e tt
 
-pub work_line : (p : Parsing) (work : List WorkLine) (l : List ℕ) (ls : List (List ℕ)) (t : Bool) (actor : ℕ) (w : Work) →
+pub work_line : (p : Parsing) (work : List WorkLine) (l : List ℕ) (ls : List (List ℕ)) (t : Bool) (actor : ℕ) (w : AWork) →
     fed p l ≡ Ok (line.Work actor w) → script_from p work (l ∷ ls) t ≡ script_from (parsing_after p l) (record { actor = actor; work = w } ∷ work) ls t
 work_line p work l ls t actor w e = one_line p work l ls t (line.Work actor w) e tt
 
@@ -116,3 +119,30 @@ pub more_from : (p : Parsing) (work : List WorkLine) (ls : List (List ℕ)) (t :
 more_from p work [] true = same_work work
 more_from p work [] false = more_ended (finished p) p work
 more_from p work (l ∷ ls) t = more_after (fed p l) p work _ (λ said. more_from (parsing_after p l) (work_with said work) ls t)
+
+-- the board that was read of a script, whatever became of it
+abbrev pub board_in : Script → Option Board
+board_in (Accepted b done) = Some b
+board_in (Refused fault so_far) = so_far.board
+board_in (TooLong so_far) = so_far.board
+
+board_ended : (b : Board) (r : Result (Unit {0}) ScriptFault) (p : Parsing) (work : List WorkLine) → p.stage ≡ Work b → board_in (ended_by r p work) ≡ Some b
+board_ended b (Ok it) p work e = ap (λ s. Some (board_at s)) e
+board_ended b (Err fault) p work e = ap whole_board e
+
+board_read : (b : Board) (p : Parsing) (r : Reading) (work : List WorkLine) (next : Parsing → Line → Script) → p.stage ≡ Work b →
+    ((q : Parsing) (l : Line) → q.stage ≡ Work b → board_in (next q l) ≡ Some b) → board_in (after_line (answer_by p r) p work (next (parsing_by p r))) ≡ Some b
+board_read b p None work next e h = ap whole_board e
+board_read b p (Some say.End) work next e h = ap (λ s. Some (board_at s)) e
+board_read b p (Some it) work next e h = h (parsing_by p (Some it)) (line_by p.stage it) (ap (λ s. stage_by s it) e)
+
+board_fed : (b : Board) (f : Option ScriptFault) (p : Parsing) (l : List ℕ) (work : List WorkLine) (next : Parsing → Line → Script) → p.stage ≡ Work b →
+    ((q : Parsing) (said : Line) → q.stage ≡ Work b → board_in (next q said) ≡ Some b) → board_in (after_line (fed_by f p l) p work (next (parsing_from f p l))) ≡ Some b
+board_fed b (Some fault) p l work next e h = ap whole_board e
+board_fed b None p l work next e h = board_read b p (said_of p.stage l) work next e h
+
+-- whatever follows the header, the board of a script is that of its header
+pub board_from : (b : Board) (p : Parsing) (work : List WorkLine) (ls : List (List ℕ)) (t : Bool) → p.stage ≡ Work b → board_in (script_from p work ls t) ≡ Some b
+board_from b p work [] true e = ap whole_board e
+board_from b p work [] false e = board_ended b (finished p) p work e
+board_from b p work (l ∷ ls) t e = board_fed b p.fault p l work (λ q said. script_from q (work_with said work) ls t) e (λ q said k. board_from b q (work_with said work) ls t k)

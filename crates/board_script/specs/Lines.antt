@@ -16,7 +16,7 @@ use Rattle.board_script.specs.Words.{are_printable, word_of, rest_of, is_blank, 
 use Rattle.board_script.specs.Numbers.{bounded_of, pair_of}
 use Rattle.board_script.specs.Working.{IsFresh}
 
--- what is read of a line: none where it is refused
+-- what is read of a line: nothing at all where it is refused
 abbrev pub Reading : Type 0
 Reading = Option Said
 
@@ -52,6 +52,7 @@ header_of turns.Esb word rest = pages_line_of word rest
 header_of turns.Go word rest = if is_word (codes "go") word && is_blank rest then Some said.Go else None
 
 -- the operation that sets a pair, by what stands after its name
+-- the operation that sets a pair, where there is one and no word stands after it
 abbrev pub set_by : Option ℕ → List ℕ → Option PqOp
 set_by (Some pq) rest = if is_blank rest then Some (Set pq) else None
 set_by None rest = None
@@ -81,6 +82,7 @@ work_of b word rest =
     with_number (bounded_of (word_of (rest_of rest)) 0 b.limits.sources) (λ s.
     work_by (operation_of (word_of rest) (rest_of (rest_of rest))) actor s))
 
+-- what the words of a line say at a stage, by the first word and what stands after it
 abbrev pub words_of : Stage → List ℕ → List ℕ → Reading
 words_of (Header turn b) word rest = header_of turn word rest
 words_of (Work b) word rest = work_of b word rest
@@ -106,10 +108,12 @@ abbrev pub IsNumber : ℕ → ℕ → Said → Type 0
 IsNumber low high (said.Number n) = (low ≤ n) × (n < high)
 IsNumber low high _ = ⊥
 
+-- the pages of a source
 abbrev pub IsPages : Said → Type 0
 IsPages (said.Pages two_pages store_eoi) = Unit {0}
 IsPages _ = ⊥
 
+-- the end of the header
 abbrev pub IsGo : Said → Type 0
 IsGo said.Go = Unit {0}
 IsGo _ = ⊥
@@ -137,6 +141,7 @@ IsWorkSaid b said.End = Unit {0}
 IsWorkSaid b (said.Work actor work) = IsWork b actor work
 IsWorkSaid b _ = ⊥
 
+-- what words say fits the stage
 abbrev pub IsWordsSaid : Stage → Said → Type 0
 IsWordsSaid (Header turn b) it = IsHeaderSaid turn it
 IsWordsSaid (Work b) it = IsWorkSaid b it

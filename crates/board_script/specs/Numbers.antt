@@ -1,6 +1,6 @@
 -- The numbers and pairs of a line.
 use Rattle.std.specs.Prelude.{ℕ, ◌==◌, ◌+◌, ◌-◌, ◌*◌, ◌^◌, ◌&&◌, ◌||◌, nat_lt, nat_le, if◌then◌else◌, List, [], ◌∷◌, Option, Some, None, length, codes}
-use Rattle.board_script.specs.Words.{is_none, is_word}
+use Rattle.board_script.specs.Words.{is_empty, is_word}
 
 -- the number that more decimal digits make of a number, where each is one and it stays below 2 ^ 64
 abbrev pub decimal_from : ℕ → List ℕ → Option ℕ
@@ -11,7 +11,7 @@ decimal_from n (b ∷ bs) =
 
 -- the number of 1 to 20 decimal digits
 abbrev pub decimal_of : List ℕ → Option ℕ
-decimal_of word = if is_none word || nat_lt 20 (length word) then None else decimal_from 0 word
+decimal_of word = if is_empty word || nat_lt 20 (length word) then None else decimal_from 0 word
 
 -- the value of a hexadecimal digit, of either case
 abbrev pub digit_of : ℕ → Option ℕ
@@ -33,13 +33,14 @@ hexadecimal_from (Some n) (b ∷ bs) = hexadecimal_from (hexadecimal_with n (dig
 
 -- the number of 1 to 16 hexadecimal digits
 abbrev pub hexadecimal_of : List ℕ → Option ℕ
-hexadecimal_of word = if is_none word || nat_lt 16 (length word) then None else hexadecimal_from (Some 0) word
+hexadecimal_of word = if is_empty word || nat_lt 16 (length word) then None else hexadecimal_from (Some 0) word
 
 -- the number that a word is: hexadecimal behind 0x or 0X
 abbrev pub number_of : List ℕ → Option ℕ
 number_of (a ∷ b ∷ bs) = if (a == 48) && ((b == 120) || (b == 88)) then hexadecimal_of bs else decimal_of (a ∷ b ∷ bs)
 number_of word = decimal_of word
 
+-- a number, where there is one from low on and below high
 abbrev pub in_bounds : Option ℕ → ℕ → ℕ → Option ℕ
 in_bounds (Some n) low high = if nat_le low n && nat_lt n high then Some n else None
 in_bounds None low high = None

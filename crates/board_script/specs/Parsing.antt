@@ -28,10 +28,12 @@ line_after n = min (n + 1) 4294967295
 abbrev pub not_built : ℕ → ScriptFault
 not_built n = record { line = n; byte = 1; cause = NotBuilt }
 
+-- what a parser without a fault answers what it reads of a line
 abbrev pub answer_by : Parsing → Reading → Result Line ScriptFault
 answer_by p (Some it) = Ok (line_by p.stage it)
 answer_by p None = Err (not_built (line_after p.lines))
 
+-- what a parser answers a line, by the fault that stands
 abbrev pub fed_by : Option ScriptFault → Parsing → List ℕ → Result Line ScriptFault
 fed_by (Some fault) p line = Err fault
 fed_by None p line = answer_by p (said_of p.stage line)
@@ -40,10 +42,12 @@ fed_by None p line = answer_by p (said_of p.stage line)
 abbrev pub fed : Parsing → List ℕ → Result Line ScriptFault
 fed p line = fed_by p.fault p line
 
+-- a parser without a fault after what it reads of a line
 abbrev pub parsing_by : Parsing → Reading → Parsing
 parsing_by p (Some it) = record { stage = stage_by p.stage it; lines = line_after p.lines; fault = None }
 parsing_by p None = record { stage = p.stage; lines = line_after p.lines; fault = Some (not_built (line_after p.lines)) }
 
+-- a parser after a line, by the fault that stands
 abbrev pub parsing_from : Option ScriptFault → Parsing → List ℕ → Parsing
 parsing_from (Some fault) p line = p
 parsing_from None p line = parsing_by p (said_of p.stage line)
@@ -58,6 +62,7 @@ finished_at (Header turn b) n = Err (not_built (line_after n))
 finished_at (Work b) n = Ok tt
 finished_at (Ended b) n = Ok tt
 
+-- the end of the input, by the fault that stands
 abbrev pub finished_by : Option ScriptFault → Stage → ℕ → Result (Unit {0}) ScriptFault
 finished_by (Some fault) stage n = Err fault
 finished_by None stage n = finished_at stage n

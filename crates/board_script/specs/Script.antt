@@ -41,6 +41,7 @@ abbrev pub work_with : Line → List WorkLine → List WorkLine
 work_with (line.Work actor w) work = record { actor = actor; work = w } ∷ work
 work_with _ work = work
 
+-- the input is over: what the parser answered to that
 abbrev pub ended_by : Result (Unit {0}) ScriptFault → Parsing → List WorkLine → Script
 ended_by (Ok it) p work = Accepted (board_at p.stage) work
 ended_by (Err fault) p work = Refused fault (so_far p work)

@@ -13,6 +13,7 @@ use Rattle.board_script.specs.declared.lines.Line.{Line}
 use Rattle.board_script.specs.declared.lines.Line.TheVariants as line
 use Rattle.board_script.specs.Lines.{IsWork}
 
+-- no ranges
 abbrev pub no_spans : Spans
 no_spans = record { count = 0; spans = replicate 16 (record { first = 0; last = 0 }) }
 
@@ -66,11 +67,13 @@ board_with turn (said.Number n) b = with_count turn n b
 board_with turn (said.Pages two store) b = record b { two_pages = two; store_eoi = store }
 board_with turn _ b = b
 
+-- the stage after a line of the header
 abbrev pub header_after : Turn → Board → Said → Stage
 header_after turn b said.Nothing = Header turn b
 header_after turn b said.Go = Work b
 header_after turn b it = Header (next_turn turn) (board_with turn it b)
 
+-- the stage after a line behind the header
 abbrev pub work_after : Board → Said → Stage
 work_after b said.End = Ended b
 work_after b _ = Work b
@@ -101,6 +104,7 @@ IsStage (Header turn b) = IsHeaderBoard b
 IsStage (Work b) = Unit {0}
 IsStage (Ended b) = Unit {0}
 
+-- the header isn't over
 abbrev pub IsInHeader : Stage → Type 0
 IsInHeader (Header turn b) = Unit {0}
 IsInHeader (Work b) = ⊥

@@ -25,13 +25,14 @@ word_of line = take (word_len (skip line)) (skip line)
 abbrev pub rest_of : List ℕ → List ℕ
 rest_of line = drop (word_len (skip line)) (skip line)
 
-abbrev pub is_none : List ℕ → Bool
-is_none [] = true
-is_none (b ∷ bs) = false
+-- whether there are no bytes
+abbrev pub is_empty : List ℕ → Bool
+is_empty [] = true
+is_empty (b ∷ bs) = false
 
 -- whether no word stands in a line
 abbrev pub is_blank : List ℕ → Bool
-is_blank line = is_none (skip line)
+is_blank line = is_empty (skip line)
 
 -- whether a word is this one
 abbrev pub is_word : List ℕ → List ℕ → Bool

@@ -1,10 +1,11 @@
 //! What a line says at a stage, and the stage after it.
 
-ghost use Rattle.std.specs.Prelude.{◌≡◌, IfSome};
+ghost use Rattle.std.specs.Prelude.{◌≡◌, IfSome, Ok};
 ghost use Rattle.board_script.specs.Lines.{said_of, IsSaidAt};
 ghost use Rattle.board_script.specs.Stages.{next_turn, with_count, board_at, line_by, stage_by};
 ghost use Rattle.board_script.specs.declared.lines.Said.{Said};
 
+use crate::faults::ScriptFault;
 use crate::header::header_line;
 use crate::lines::{Line, Said};
 use crate::stage::{Stage, Turn};
@@ -119,31 +120,32 @@ fn end(stage: &mut Stage)
     }
 }
 
-/// Goes on to the stage after a line, and answers what the line says.
-#[inline(always)]
-pub fn advance(stage: &mut Stage, said: Said) -> Line
+/// Goes on to the stage after a line, and answers what the line says. It is apart from the reading of work
+/// lines, since a board is large, and the space for one is cleared at each call.
+#[inline(never)]
+pub fn advance(stage: &mut Stage, said: Said) -> Result<Line, ScriptFault>
     requires { IsSaidAt stage.old said }
-    ensures line { result ≡ line_by stage.old said }
+    ensures line { result ≡ Ok (line_by stage.old said) }
     ensures after { stage.new ≡ stage_by stage.old said }
 {
     match said {
-        Said::Nothing => Line::Nothing,
+        Said::Nothing => Ok(Line::Nothing),
         Said::Number { n } => {
             count(stage, n);
-            Line::Header
+            Ok(Line::Header)
         }
         Said::Pages {
             two_pages,
             store_eoi,
         } => {
             set_pages(stage, two_pages, store_eoi);
-            Line::Header
+            Ok(Line::Header)
         }
-        Said::Go => Line::Go { board: go(stage) },
+        Said::Go => Ok(Line::Go { board: go(stage) }),
         Said::End => {
             end(stage);
-            Line::End
+            Ok(Line::End)
         }
-        Said::Work { actor, work } => Line::Work { actor, work },
+        Said::Work { actor, work } => Ok(Line::Work { actor, work }),
     }
 }

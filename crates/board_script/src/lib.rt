@@ -8,6 +8,8 @@ pub mod lines;
 mod numbers;
 pub mod parser;
 pub mod stage;
+#[cfg(test)]
+mod tests;
 mod words;
 pub mod work;
 mod working;

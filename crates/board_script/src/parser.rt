@@ -6,7 +6,7 @@ ghost use Rattle.board_script.specs.Parsing.{not_built};
 
 use crate::advancing::{advance, read_line};
 use crate::faults::{Cause, ScriptFault};
-use crate::lines::Line;
+use crate::lines::{Line, Said};
 use crate::stage::{Stage, Turn};
 use std::marker::Model;
 use xv_base::Limits;
@@ -98,7 +98,8 @@ impl Parser {
         }
         self.lines = self.lines.saturating_add(1);
         match read_line(&self.stage, line) {
-            Some(said) => Ok(advance(&mut self.stage, said)),
+            Some(Said::Work { actor, work }) => Ok(Line::Work { actor, work }),
+            Some(said) => advance(&mut self.stage, said),
             None => {
                 let fault = refusal(self.lines);
                 self.fault = Some(fault);
