@@ -1,1 +1,5 @@
 pub mod OneAccount
+pub mod Touches
+pub mod HalvesLemmas
+pub mod Beginnings
+pub mod Sums

@@ -1,12 +1,12 @@
 -- A script has one legal account.
-use Rattle.std.proofs.Common.{ℕ, suc, ◌≡◌, ◌+◌, ◌<◌, ◌≤◌, List, [], ◌∷◌, ◌++◌, length, Option, Some, None, refl, sym, ◌∙◌, ap, subst, arith, ◌⊎◌, inl, inr, append_assoc, append-nil, length-append}
+use Rattle.std.proofs.Common.{ℕ, ◌≡◌, ◌≤◌, List, [], ◌∷◌, ◌++◌, length, Some, None, refl, sym, ◌∙◌, ap, subst, arith, inl, inr, append-nil, length-append}
 use Rattle.std.proofs.lemmas.Bool.{cases_lt}
 use Rattle.xv_model.specs.declared.operations.Op.{Op}
 use Rattle.xv_model.specs.declared.outcomes.Outcome.{Outcome}
 use Rattle.xv_model.specs.declared.entries.Entry.{Entry}
 use Rattle.xv_model.specs.Start.{Start}
-use Rattle.xv_model.specs.Legal.{IsLegal, IsNext, legal}
-use Rattle.xv_model.specs.Scripts.{Line, Begins, IsPart, Follows, OneAccount}
+use Rattle.xv_model.specs.Legal.{IsLegal, legal}
+use Rattle.xv_model.specs.Scripts.{Line, Begins, IsPart, OneAccount}
 
 abbrev make : ℕ → Op → Outcome → Entry
 make actor o outcome = record { actor = actor; op = o; outcome = outcome }
@@ -58,7 +58,8 @@ one_part z line h p q a b l m =
       | inr longer ↦ let r = goes_on z line h q p a.begins b.begins l m longer in ended line h p q a b.begins r.0 r.1
     ]
 
-legal_before : (z : Start) (p h : List Entry) → IsLegal z (p ++ h) → IsLegal z h
+-- an account before later entries of a legal one is legal
+pub legal_before : (z : Start) (p h : List Entry) → IsLegal z (p ++ h) → IsLegal z h
 legal_before z [] h l = l
 legal_before z (x ∷ p) h l = legal_before z p h l.0
 
