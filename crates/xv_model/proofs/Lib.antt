@@ -3,3 +3,4 @@ pub mod Touches
 pub mod HalvesLemmas
 pub mod Beginnings
 pub mod Sums
+pub mod SmallPairs
