@@ -4,3 +4,4 @@ pub mod HalvesLemmas
 pub mod Beginnings
 pub mod Sums
 pub mod SmallPairs
+pub mod TriggerLaws
