@@ -8,9 +8,11 @@ use Rattle.xv_model.specs.Start.{Start}
 use Rattle.xv_model.specs.Legal.{IsLegal, legal}
 use Rattle.xv_model.specs.Scripts.{Line, Begins, IsPart, OneAccount}
 
+-- an entry of its three parts
 abbrev make : ℕ → Op → Outcome → Entry
 make actor o outcome = record { actor = actor; op = o; outcome = outcome }
 
+-- entries of equal parts are equal
 entries_equal : (x y : Entry) → x.actor ≡ y.actor → x.op ≡ y.op → x.outcome ≡ y.outcome → x ≡ y
 entries_equal x y a o u = ap (λ v. make v x.op x.outcome) a ∙ ap (λ v. make y.actor v x.outcome) o ∙ ap (λ v. make y.actor y.op v) u
 
@@ -21,6 +23,7 @@ same_entry z line h p x y a b l m =
     let ops : x.op ≡ y.op = cc in
     entries_equal x y (a.1 ∙ sym b.1) ops (l.1.outcome ∙ ap (legal z (p ++ h)) ops ∙ sym m.1.outcome)
 
+-- a list of no length is empty
 nothing : (r : List Entry) → length r ≤ 0 → r ≡ []
 nothing [] l = refl
 nothing (x ∷ r) l = absurd (omega arith)

@@ -36,10 +36,12 @@ sets_valid Raise e = tt
 sets_valid Lower e = tt
 sets_valid (Init asserted) e = tt
 
+-- an operation, where there is one, is a set to a pair at most
 abbrev SomeSetsPair : Option PqOp → Type 0
 SomeSetsPair (Some o) = SetsPair o
 SomeSetsPair None = Unit {0}
 
+-- of two operations that set pairs each choice does
 sets_if : (b : Bool) (m n : Option PqOp) → SomeSetsPair m → SomeSetsPair n → SomeSetsPair (if b then m else n)
 sets_if true m n v w = v
 sets_if false m n v w = w
@@ -56,6 +58,7 @@ sets_store eoi o = sets_if (nat_lt o 1024) _ _ tt (sets_if (nat_lt o 2048) _ _ (
 sets_page : (b : Board) (page offset : ℕ) (store : Bool) → SomeSetsPair (page_op b page offset store)
 sets_page b page offset store = sets_if (b.two_pages && (page == 0)) _ _ (sets_if store _ _ tt tt) (sets_if store _ _ (sets_store b.store_eoi (offset % 4096)) (sets_load (offset % 4096)))
 
+-- the access by an operation that sets a pair sets one
 sets_of : (s : ℕ) (m : Option PqOp) (a : WordAccess) → SomeSetsPair m → option_and_then (λ o. Some (record { source = s; op = o })) m ≡ Some a → SetsPair a.op
 sets_of s (Some o) a w e = subst (λ m. SetsPair m) (grind arith) w
 sets_of s None a w e = cc
@@ -78,6 +81,7 @@ small_cell Raise level on q l w = grind (arith, nat_tests)
 small_cell Lower level on q l w = l
 small_cell (Init asserted) level on q l w = lit< tt
 
+-- the pair after a touch is below 4 where each new pair is
 small_after : (m : Option Touch) (k : ℕ) → ((t : Touch) → m ≡ Some t → t.new < 4) → k < 4 → option_map_or (λ t. t.new) m k < 4
 small_after None k w l = l
 small_after (Some t) k w l = w t refl
@@ -93,6 +97,7 @@ pq-below z (x ∷ h) s l w =
     let sets : SetsPair t.op = sets_access z.board x.op _ l.1.valid_op a in
     subst (λ n. n < 4) (sym f.new) (small_cell t.op (is_level z.board s) (asserted z h s) (pq z h s) before sets)) before
 
+-- of two outcomes with pairs each choice has pairs
 has_pairs_if : (b : Bool) (m n : Outcome) → HasPairs m → HasPairs n → HasPairs (if b then m else n)
 has_pairs_if true m n v w = v
 has_pairs_if false m n v w = w
@@ -101,6 +106,7 @@ has_pairs_if false m n v w = w
 answer_has_pairs : (c : Cell) (q n : ℕ) → q < 4 → c.pair < 4 → HasPairs (answer_by c q n)
 answer_has_pairs c q n l m = has_pairs_if c.forwards _ _ (has_pairs_if (n == most_forwards) _ _ tt (l, m)) (l, m)
 
+-- the legal outcome of an operation has pairs, by whether it is an access
 legal_has_pairs_by : (z : Start) (h : List Entry) (o : Op) (m : Option WordAccess) → ((a : WordAccess) → m ≡ Some a → SetsPair a.op) → ((s : ℕ) → pq z h s < 4) → HasPairs (option_map_or (word_answer z h) m (fabric_answer z h o))
 legal_has_pairs_by z h o None sets small = tt
 legal_has_pairs_by z h o (Some a) sets small =
