@@ -87,10 +87,12 @@ access_at : (s : ℕ) (kind : PqOp → Bool) (m : Option WordAccess) → is_acce
 access_at s kind None e = cc
 access_at s kind (Some a) e = (a.op, grind (arith, nat_tests), (and_parts (a.source == s) (kind a.op) e).1)
 
+-- an operation that is a trigger is Trigger
 trigger_op : (o : PqOp) → is_trigger o ≡ true → o ≡ Trigger
 trigger_op Trigger e = refl
 trigger_op _ e = cc
 
+-- an operation that is an EOI is Eoi
 eoi_op : (o : PqOp) → is_eoi o ≡ true → o ≡ Eoi
 eoi_op Eoi e = refl
 eoi_op _ e = cc
