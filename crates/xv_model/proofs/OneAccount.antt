@@ -54,6 +54,7 @@ ended : (line : Line) (h p q : List Entry) → IsPart line h p → Begins line h
 ended line h p q a b [] e = e
 ended line h p q a b (x ∷ r) e = let n = has_next line h p r x (subst (Begins line h) e b) in let k : Some n.0 ≡ None = sym n.1 ∙ a.ends in absurd cc
 
+-- of two parts that are all of a line the two are one
 one_part : (z : Start) (line : Line) (h p q : List Entry) → IsPart line h p → IsPart line h q → IsLegal z (p ++ h) → IsLegal z (q ++ h) → q ≡ p
 one_part z line h p q a b l m =
     elim (cases_lt (length q) (length p)) [
@@ -66,6 +67,7 @@ pub legal_before : (z : Start) (p h : List Entry) → IsLegal z (p ++ h) → IsL
 legal_before z [] h l = l
 legal_before z (x ∷ p) h l = legal_before z p h l.0
 
+-- no two legal accounts follow the same lines
 pub one_account : OneAccount
 one_account z [] h g l m f k = f ∙ sym k
 one_account z (line ∷ lines) h g l m (before, part, e, rest, whole) (before', part', e', rest', whole') =
