@@ -5,6 +5,8 @@ pub mod limits;
 pub mod memory;
 pub mod numbers;
 pub mod status;
+#[cfg(test)]
+mod tests;
 pub mod word;
 
 pub use limits::Limits;

@@ -1,2 +1,7 @@
+pub mod Beginnings
+pub mod HalvesLemmas
 pub mod OneAccount
+pub mod SmallPairs
 pub mod Sums
+pub mod Touches
+pub mod TriggerLaws

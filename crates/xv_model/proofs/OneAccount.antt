@@ -1,16 +1,18 @@
 -- A script has one legal account.
-use Rattle.std.proofs.Common.{ℕ, suc, ◌≡◌, ◌+◌, ◌<◌, ◌≤◌, List, [], ◌∷◌, ◌++◌, length, Option, Some, None, refl, sym, ◌∙◌, ap, subst, arith, ◌⊎◌, inl, inr, append_assoc, append-nil, length-append}
+use Rattle.std.proofs.Common.{ℕ, ◌≡◌, ◌≤◌, List, [], ◌∷◌, ◌++◌, length, Some, None, refl, sym, ◌∙◌, ap, subst, arith, inl, inr, append-nil, length-append}
 use Rattle.std.proofs.lemmas.Bool.{cases_lt}
 use Rattle.xv_model.specs.declared.operations.Op.{Op}
 use Rattle.xv_model.specs.declared.outcomes.Outcome.{Outcome}
 use Rattle.xv_model.specs.declared.entries.Entry.{Entry}
 use Rattle.xv_model.specs.Start.{Start}
-use Rattle.xv_model.specs.Legal.{IsLegal, IsNext, legal}
-use Rattle.xv_model.specs.Scripts.{Line, Begins, IsPart, Follows, OneAccount}
+use Rattle.xv_model.specs.Legal.{IsLegal, legal}
+use Rattle.xv_model.specs.Scripts.{Line, Begins, IsPart, OneAccount}
 
+-- an entry of its three parts
 abbrev make : ℕ → Op → Outcome → Entry
 make actor o outcome = record { actor = actor; op = o; outcome = outcome }
 
+-- entries of equal parts are equal
 entries_equal : (x y : Entry) → x.actor ≡ y.actor → x.op ≡ y.op → x.outcome ≡ y.outcome → x ≡ y
 entries_equal x y a o u = ap (λ v. make v x.op x.outcome) a ∙ ap (λ v. make y.actor v x.outcome) o ∙ ap (λ v. make y.actor y.op v) u
 
@@ -21,6 +23,7 @@ same_entry z line h p x y a b l m =
     let ops : x.op ≡ y.op = cc in
     entries_equal x y (a.1 ∙ sym b.1) ops (l.1.outcome ∙ ap (legal z (p ++ h)) ops ∙ sym m.1.outcome)
 
+-- a list of no length is empty
 nothing : (r : List Entry) → length r ≤ 0 → r ≡ []
 nothing [] l = refl
 nothing (x ∷ r) l = absurd (omega arith)
@@ -51,6 +54,7 @@ ended : (line : Line) (h p q : List Entry) → IsPart line h p → Begins line h
 ended line h p q a b [] e = e
 ended line h p q a b (x ∷ r) e = let n = has_next line h p r x (subst (Begins line h) e b) in let k : Some n.0 ≡ None = sym n.1 ∙ a.ends in absurd cc
 
+-- of two parts that are all of a line the two are one
 one_part : (z : Start) (line : Line) (h p q : List Entry) → IsPart line h p → IsPart line h q → IsLegal z (p ++ h) → IsLegal z (q ++ h) → q ≡ p
 one_part z line h p q a b l m =
     elim (cases_lt (length q) (length p)) [
@@ -58,10 +62,12 @@ one_part z line h p q a b l m =
       | inr longer ↦ let r = goes_on z line h q p a.begins b.begins l m longer in ended line h p q a b.begins r.0 r.1
     ]
 
-legal_before : (z : Start) (p h : List Entry) → IsLegal z (p ++ h) → IsLegal z h
+-- an account before later entries of a legal one is legal
+pub legal_before : (z : Start) (p h : List Entry) → IsLegal z (p ++ h) → IsLegal z h
 legal_before z [] h l = l
 legal_before z (x ∷ p) h l = legal_before z p h l.0
 
+-- no two legal accounts follow the same lines
 pub one_account : OneAccount
 one_account z [] h g l m f k = f ∙ sym k
 one_account z (line ∷ lines) h g l m (before, part, e, rest, whole) (before', part', e', rest', whole') =

@@ -12,3 +12,4 @@ pub mod Legal
 pub mod Text
 pub mod Scripts
 pub mod Halves
+pub mod Triggers

@@ -1,5 +1,5 @@
 -- Where an account begins.
-use Rattle.std.specs.Prelude.{ℕ, Bool, true, false, not, List, []}
+use Rattle.std.specs.Prelude.{ℕ, Bool, false, not, List, []}
 use Rattle.xv_model.specs.declared.board.Board.{Board}
 use Rattle.xv_model.specs.declared.operations.EndConfig.{EndConfig}
 use Rattle.xv_model.specs.declared.outcomes.Phase.{Phase}

@@ -1,8 +1,16 @@
 //! Laws of every legal account. The functions do nothing; their contracts are the laws.
 
 ghost use Rattle.xv_model.specs.Scripts.{OneAccount};
+ghost use Rattle.xv_model.specs.Triggers.{CoalescedComesAgain, EachTriggerAccounted, NumberedInOrder};
 
 /// Of lines and the accounts that follow them.
 pub fn scripts()
     ensures one_account { OneAccount }
+{}
+
+/// Of the triggers of a source.
+pub fn triggers()
+    ensures numbered_in_order { NumberedInOrder }
+    ensures each_accounted { EachTriggerAccounted }
+    ensures comes_again { CoalescedComesAgain }
 {}

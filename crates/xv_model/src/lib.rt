@@ -9,4 +9,6 @@ pub mod laws;
 pub mod messages;
 pub mod operations;
 pub mod outcomes;
+#[cfg(test)]
+mod tests;
 pub mod validity;

@@ -1,0 +1,120 @@
+-- The pairs of a legal account are pairs.
+use Rattle.std.proofs.Common.{ℕ, ◌≡◌, ◌==◌, ◌<◌, ◌&&◌, nat_lt, ◌%◌, Bool, true, false, if◌then◌else◌, List, [], ◌∷◌, Option, Some, None, refl, sym, subst, arith, lit<}
+use Rattle.std.proofs.lemmas.Bool.{and_parts}
+use Rattle.std.proofs.lemmas.Bool.Decides.{nat_tests}
+use Rattle.std.specs.Option.{option_map_or}
+use Rattle.std.specs.Prelude.{option_and_then}
+use Rattle.xv_model.specs.declared.board.Board.{Board}
+use Rattle.xv_model.specs.declared.operations.Op.{Op}
+use Rattle.xv_model.specs.declared.operations.Op.TheVariants as op
+use Rattle.xv_model.specs.declared.operations.PqOp.{PqOp}
+use Rattle.xv_model.specs.declared.operations.PqOp.TheVariants.{Trigger, Eoi, Get, Set, Raise, Lower, Init}
+use Rattle.xv_model.specs.declared.outcomes.Outcome.{Outcome}
+use Rattle.xv_model.specs.declared.entries.Entry.{Entry}
+use Rattle.xv_model.specs.Start.{Start}
+use Rattle.xv_model.specs.Kinds.{WordAccess, access_of, page_op, load_op, store_op}
+use Rattle.xv_model.specs.PqTable.{Cell, pq_row}
+use Rattle.xv_model.specs.Pairs.{Touch, touch_of, touch_at, pq, asserted}
+use Rattle.xv_model.specs.Notices.{forwards}
+use Rattle.xv_model.specs.Validity.{valid, valid_pq}
+use Rattle.xv_model.specs.Legal.{IsLegal, IsNext, is_level, most_forwards, answer_by, cell_after, word_answer, fabric_answer}
+use Rattle.xv_model.specs.Text.{HasPairs}
+use Rattle.xv_model.proofs.Touches.{legal_touch, touch_is}
+
+-- a set is to a pair
+abbrev pub SetsPair : PqOp → Type 0
+SetsPair (Set new) = new < 4
+SetsPair _ = Unit {0}
+
+-- a valid operation on a pair sets a pair
+sets_valid : (o : PqOp) → valid_pq o ≡ true → SetsPair o
+sets_valid (Set new) e = grind (arith, nat_tests)
+sets_valid Trigger e = tt
+sets_valid Eoi e = tt
+sets_valid Get e = tt
+sets_valid Raise e = tt
+sets_valid Lower e = tt
+sets_valid (Init asserted) e = tt
+
+-- an operation, where there is one, is a set to a pair at most
+abbrev SomeSetsPair : Option PqOp → Type 0
+SomeSetsPair (Some o) = SetsPair o
+SomeSetsPair None = Unit {0}
+
+-- of two operations that set pairs each choice does
+sets_if : (b : Bool) (m n : Option PqOp) → SomeSetsPair m → SomeSetsPair n → SomeSetsPair (if b then m else n)
+sets_if true m n v w = v
+sets_if false m n v w = w
+
+-- a load of a management page sets a pair
+sets_load : (o : ℕ) → SomeSetsPair (load_op o)
+sets_load o = sets_if (nat_lt o 2048) _ _ tt (sets_if (nat_lt o 3072) _ _ tt (omega arith))
+
+-- a store to a management page sets a pair
+sets_store : (eoi : Bool) (o : ℕ) → SomeSetsPair (store_op eoi o)
+sets_store eoi o = sets_if (nat_lt o 1024) _ _ tt (sets_if (nat_lt o 2048) _ _ (sets_if eoi _ _ tt tt) (sets_if (nat_lt o 3072) _ _ tt (omega arith)))
+
+-- an access to a page of a source sets a pair
+sets_page : (b : Board) (page offset : ℕ) (store : Bool) → SomeSetsPair (page_op b page offset store)
+sets_page b page offset store = sets_if (b.two_pages && (page == 0)) _ _ (sets_if store _ _ tt tt) (sets_if store _ _ (sets_store b.store_eoi (offset % 4096)) (sets_load (offset % 4096)))
+
+-- the access by an operation that sets a pair sets one
+sets_of : (s : ℕ) (m : Option PqOp) (a : WordAccess) → SomeSetsPair m → option_and_then (λ o. Some (record { source = s; op = o })) m ≡ Some a → SetsPair a.op
+sets_of s (Some o) a w e = subst (λ m. SetsPair m) (grind arith) w
+sets_of s None a w e = cc
+
+-- a valid operation on a source's word sets a pair
+pub sets_access : (b : Board) (o : Op) (a : WordAccess) → valid b o ≡ true → access_of b o ≡ Some a → SetsPair a.op
+sets_access b (op.Pq s o) a v e =
+    let w : SetsPair o = sets_valid o (and_parts (nat_lt s b.limits.sources) (valid_pq o) v).1 in
+    let same : o ≡ a.op = cc in subst (λ q. SetsPair q) same w
+sets_access b (op.Esb s page offset store) a v e = sets_of s (page_op b page offset store) a (sets_page b page offset store) e
+sets_access b _ a v e = cc
+
+-- a row of the table gives a pair
+small_cell : (o : PqOp) (level on : Bool) (q : ℕ) → q < 4 → SetsPair o → (pq_row o level on q).pair < 4
+small_cell Trigger level on q l w = grind (arith, nat_tests)
+small_cell Eoi level on q l w = grind (arith, nat_tests)
+small_cell Get level on q l w = l
+small_cell (Set new) level on q l w = w
+small_cell Raise level on q l w = grind (arith, nat_tests)
+small_cell Lower level on q l w = l
+small_cell (Init asserted) level on q l w = lit< tt
+
+-- the pair after a touch is below 4 where each new pair is
+small_after : (m : Option Touch) (k : ℕ) → ((t : Touch) → m ≡ Some t → t.new < 4) → k < 4 → option_map_or (λ t. t.new) m k < 4
+small_after None k w l = l
+small_after (Some t) k w l = w t refl
+
+-- the pair of a source is below 4 in a legal account
+pub pq-below : (z : Start) (h : List Entry) (s : ℕ) → IsLegal z h → z.pair s < 4 → pq z h s < 4
+pq-below z [] s l w = w
+pq-below z (x ∷ h) s l w =
+    let before : pq z h s < 4 = pq-below z h s l.0 w in
+    small_after (touch_at s (touch_of z.board x)) (pq z h s) (λ t e.
+    let f = legal_touch z h s x t l.1 e in
+    let a : access_of z.board x.op ≡ Some (record { source = s; op = t.op }) = touch_is s (access_of z.board x.op) x.outcome t e in
+    let sets : SetsPair t.op = sets_access z.board x.op _ l.1.valid_op a in
+    subst (λ n. n < 4) (sym f.new) (small_cell t.op (is_level z.board s) (asserted z h s) (pq z h s) before sets)) before
+
+-- of two outcomes with pairs each choice has pairs
+has_pairs_if : (b : Bool) (m n : Outcome) → HasPairs m → HasPairs n → HasPairs (if b then m else n)
+has_pairs_if true m n v w = v
+has_pairs_if false m n v w = w
+
+-- an answer by a cell of a pair has pairs
+answer_has_pairs : (c : Cell) (q n : ℕ) → q < 4 → c.pair < 4 → HasPairs (answer_by c q n)
+answer_has_pairs c q n l m = has_pairs_if c.forwards _ _ (has_pairs_if (n == most_forwards) _ _ tt (l, m)) (l, m)
+
+-- the legal outcome of an operation has pairs, by whether it is an access
+legal_has_pairs_by : (z : Start) (h : List Entry) (o : Op) (m : Option WordAccess) → ((a : WordAccess) → m ≡ Some a → SetsPair a.op) → ((s : ℕ) → pq z h s < 4) → HasPairs (option_map_or (word_answer z h) m (fabric_answer z h o))
+legal_has_pairs_by z h o None sets small = tt
+legal_has_pairs_by z h o (Some a) sets small =
+    answer_has_pairs (cell_after z h a) (pq z h a.source) (forwards z h a.source) (small a.source)
+    (small_cell a.op (is_level z.board a.source) (asserted z h a.source) (pq z h a.source) (small a.source) (sets a refl))
+
+-- the next entry of a legal account has pairs in its outcome
+pub legal_has_pairs : (z : Start) (h : List Entry) (x : Entry) → IsLegal z h → ((s : ℕ) → z.pair s < 4) → IsNext z h x → HasPairs x.outcome
+legal_has_pairs z h x l w n =
+    subst HasPairs (sym n.outcome)
+    (legal_has_pairs_by z h x.op (access_of z.board x.op) (λ a e. sets_access z.board x.op a n.valid_op e) (λ s. pq-below z h s l (w s)))
