@@ -21,7 +21,9 @@ use Rattle.xive_cli.specs.Standing.{StandsFor}
 use Rattle.xive_cli.specs.Inputs.{SaysKnown, StopsKnown, script_left, IfStillTold}
 use Rattle.xive_cli.specs.Running.{RunsPart, RunsLine, HasRun, HasRunTo, RunsSoFar, GoesOnAfter, IsScript, StopsAtWork, part_text}
 use Rattle.xive_cli.proofs.ReadingOn.{risen_from}
-use Rattle.std.proofs.Common.{◌≤◌}
+use Rattle.std.proofs.Common.{◌≤◌, ◌<◌, ◌+◌, Bool, true, false, if◌then◌else◌, arith}
+use Rattle.board_script.specs.declared.work.Work.{Work}
+use Rattle.board_script.specs.Working.{steps_left}
 
 -- the lines of an account are those of a beginning, and then those of the entries after it
 entries_text-part : (z : Start) (h part : List Entry) → entries_text z (part ++ h) ≡ entries_text z h ++ part_text z h part
@@ -125,3 +127,11 @@ stopped b i i1 left left1 m w w1 w2 k k1 k2 TooLong s0 s s' f0 f f' e l n r h p 
   is_script = refused_script i i1 left left1 r.work (Exceeds (record { board = Some b; work = r.work })) r.goes (λ ys is. (subst (λ v. StopsKnown TooLong (whole_board i1.parser.stage) i1 v s s' f f') is h) r.work ∙ ap (λ (stage : Stage). Exceeds (record { board = whole_board stage; work = r.work })) e);
   ran = record { follows = r.ran.follows; legal = r.ran.legal; stands = r.ran.stands; puts = puts_nothing w w1 w2 k k1 k2 (entries_text (start b) r.account) r.ran.puts p };
 }
+
+-- a work line makes at most as many entries as it has bytes
+pub at_most_given : (work : Work) (count' count given given' : ℕ) → count' ≤ count + steps_left work → count ≤ given → given < given' → count' ≤ given'
+at_most_given work count' count given given' a b c = by work.made a
+  where
+    by : (made : Bool) → count' ≤ count + (if made then 0 else 1) → count' ≤ given'
+    by true a = omega arith
+    by false a = omega arith

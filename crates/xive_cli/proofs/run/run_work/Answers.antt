@@ -6,11 +6,31 @@ use Rattle.board_script.specs.Stages.{IsLineAt}
 use Rattle.board_script.specs.Lines.{IsWork}
 use Rattle.board_script.specs.Working.{steps_left}
 use Rattle.xive_cli.specs.Inputs.{SaysKnown, IsSaidAt, Rises}
-use Rattle.xive_cli.proofs.Steps.{nothing_ran, one_nothing, one_work, all_ran, stopped}
+use Rattle.xive_cli.proofs.Steps.{nothing_ran, one_nothing, one_work, all_ran, stopped, at_most_given}
 use Rattle.xive_cli.proofs.run.run_work.Goals as goal
 
 pub loop-actor-preserved-in-Ok-run_line : goal.loop-actor-preserved-in-Ok-run_line
-loop-actor-preserved-in-Ok-run_line g c = ?
+loop-actor-preserved-in-Ok-run_line g c =
+    let i = c.loop-actor.invariant in
+    let e = c.in-Ok-Work.ensures {u = tt} in
+    let ran = c.in-Ok-run_line.ensures {u = tt} in
+    let b = c.args.machine.now.board in
+    let said = subst (λ said. SaysKnown c.loop-actor.input (g.S.Source.left c.loop-actor.source) said c.read_line.new.input (g.S.Source.left c.read_line.new.source)) c.in-Ok-Work.field-0-is e.line in
+    let fits = subst (λ said. IsSaidAt c.loop-actor.input said c.read_line.new.input) c.in-Ok-Work.field-0-is e.fits in
+    let rises = subst (λ said. Rises c.loop-actor.input said c.read_line.new.input) c.in-Ok-Work.field-0-is e.rises in
+    let work_at = subst (λ (stage : Stage). IsLineAt stage c.read_line.new.input.parser.stage (line.Work c.in-Ok-Work.actor c.in-Ok-Work.work)) i.stage fits in
+    record {
+      runs = one_work b c.args.input.now c.loop-actor.input c.read_line.new.input (g.S.Source.left c.args.source.now) (g.S.Source.left c.loop-actor.source) (g.S.Source.left c.read_line.new.source) c.loop-actor.machine c.run_line.new.machine
+          c.args.output.now.writer c.loop-actor.output.writer c.read_line.new.output.writer c.run_line.new.output.writer (g.K.Sink.held c.args.sink.now) (g.K.Sink.held c.loop-actor.sink) (g.K.Sink.held c.read_line.new.sink) (g.K.Sink.held c.run_line.new.sink)
+          (record { actor = c.in-Ok-Work.actor; work = c.in-Ok-Work.work }) i.runs said e.puts ran.runs;
+      stage = work_at.0;
+      board = c.run_line.ensures.board ∙ i.board;
+      ended = e.ended;
+      given = e.bounded;
+      few = at_most_given c.in-Ok-Work.work c.run_line.new.machine.count c.loop-actor.machine.count c.loop-actor.input.reader.given c.read_line.new.input.reader.given c.run_line.ensures.few i.few rises;
+      source_count = omega (arith, e.source_count);
+      sink_count = omega (arith, e.sink_count, c.run_line.ensures.sink_count);
+    }
 
 pub loop-actor-preserved : goal.loop-actor-preserved
 loop-actor-preserved g c =
