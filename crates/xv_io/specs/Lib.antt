@@ -1,3 +1,5 @@
 pub mod Faults
 pub mod Gathered
+pub mod MemSink
+pub mod MemSource
 pub mod Reading
