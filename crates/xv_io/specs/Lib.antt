@@ -3,3 +3,4 @@ pub mod Gathered
 pub mod MemSink
 pub mod MemSource
 pub mod Reading
+pub mod Standard
