@@ -33,12 +33,6 @@ moves_front piece new tail start len e w = λ i j h.
     let room : j - i ≡ (start + j) - (start + i) = omega arith in
     between_is new i j ∙ ap (drop i) front ∙ sym (between_is s i j) ∙ (λ k. take (room k) (drop-drop i start piece k))
 
-pub moves_nothing : (piece : List ℕ) (len : ℕ) → IsMoved 0 len piece piece
-moves_nothing piece len = λ i j h.
-    let low : i ≡ 0 + i = omega arith in
-    let high : j ≡ 0 + j = omega arith in
-    (λ k. slice_range piece (low k) (high k))
-
 -- a part of a piece that has moved
 pub moved_part : (by len from to : ℕ) (old new : List ℕ) → IsMoved by len old new → by ≤ from → from ≤ to → to ≤ len → slice_range new (from - by) (to - by) ≡ slice_range old from to
 moved_part by len from to old new m h w l =

@@ -16,3 +16,6 @@ pub use sink::{Sink, write_whole};
 pub use source::Source;
 pub use standard::{StdSink, StdSource};
 pub use writer::{LONGEST_PUT, Writer};
+
+#[cfg(test)]
+mod tests;

@@ -1,6 +1,7 @@
 //! A source and a sink in memory, which fail at the calls that they are told.
 
-ghost use Rattle.std.specs.Prelude.{◌≡◌, ◌<◌, ◌≤◌, Some, [], drop, length, vec_len, vec_capacity, IfOk, OnOk, OnErr};
+ghost use Rattle.std.specs.Prelude.{◌≡◌, ◌<◌, ◌≤◌, ◌+◌, ◌-◌, ◌^◌, ◌↔◌, Some, [], drop, length, min, IsErr, vec_len, vec_capacity, IfOk, OnOk, OnErr};
+ghost use Rattle.std.specs.List.{Contains};
 ghost use Rattle.std.specs.Io.KnownBytes.{ReadConsumes, WriteAppends};
 ghost use Rattle.xv_io.specs.Faults.{HasRisen};
 
@@ -22,11 +23,16 @@ pub struct MemSource {
 }
 
 impl MemSource {
+    ghost use Rattle.xv_io.specs.MemSource.{piece_of, failing_of, call_of};
+
     /// Gives at most `piece` bytes at a call, and fails at the calls whose numbers, from 0 on, are in `failing`.
     pub fn new(bytes: Vec<u8>, piece: u32, failing: Vec<u64>) -> MemSource
         requires { 1 ≤ piece }
         ensures left { ⟦<MemSource as Source>⟧.left result ≡ Some bytes.items }
         ensures faults { ⟦<MemSource as Source>⟧.faults result ≡ 0 }
+        ensures piece { piece_of result ≡ piece }
+        ensures failing { failing_of result ≡ failing.items }
+        ensures call { call_of result ≡ 0 }
     {
         MemSource {
             bytes,
@@ -40,6 +46,8 @@ impl MemSource {
 }
 
 impl Source for MemSource {
+    ghost use Rattle.xv_io.specs.MemSource.{piece_of, failing_of, call_of};
+
     ghost left = { λ s. Some (drop s.at s.bytes.items) };
 
     ghost faults = { λ s. s.faults };
@@ -49,6 +57,12 @@ impl Source for MemSource {
         ensures bytes { ReadConsumes (⟦<MemSource as Source>⟧.left self.old) (⟦<MemSource as Source>⟧.left self.new) result into.new }
         ensures failed { OnErr result (HasRisen (⟦<MemSource as Source>⟧.faults self.old) (⟦<MemSource as Source>⟧.faults self.new)) }
         ensures count { ⟦<MemSource as Source>⟧.faults self.old ≤ ⟦<MemSource as Source>⟧.faults self.new }
+
+        // It fails at the calls that it was told and at no other, and gives a piece at most.
+        ensures fails { IsErr result ↔ Contains (failing_of self.old) (call_of self.old) }
+        ensures piece { IfOk result (λ n. n ≤ piece_of self.old) }
+        ensures told { (piece_of self.new ≡ piece_of self.old) × (failing_of self.new ≡ failing_of self.old) }
+        ensures next { call_of self.new ≡ min (call_of self.old + 1) (2 ^ 64 - 1) }
         ensures steady { OnOk result (⟦<MemSource as Source>⟧.faults self.new ≡ ⟦<MemSource as Source>⟧.faults self.old) }
     {
         let call = self.calls;
@@ -80,10 +94,15 @@ pub struct MemSink {
 }
 
 impl MemSink {
+    ghost use Rattle.xv_io.specs.MemSink.{space_of, failing_of, call_of};
+
     /// Takes memory for `room` bytes, and fails at the calls whose numbers, from 0 on, are in `failing`.
     pub fn new(alloc: Global, room: u32, failing: Vec<u64>) -> Result<MemSink, NoMemory>
         ensures held { IfOk result (λ s. ⟦<MemSink as Sink>⟧.held s ≡ Some []) }
         ensures faults { IfOk result (λ s. ⟦<MemSink as Sink>⟧.faults s ≡ 0) }
+        ensures space { IfOk result (λ s. space_of s ≡ room) }
+        ensures failing { IfOk result (λ s. failing_of s ≡ failing.items) }
+        ensures call { IfOk result (λ s. call_of s ≡ 0) }
     {
         match Vec::with_capacity(alloc, room as usize) {
             Ok(held) => Ok(MemSink {
@@ -106,6 +125,8 @@ impl MemSink {
 }
 
 impl Sink for MemSink {
+    ghost use Rattle.xv_io.specs.MemSink.{space_of, failing_of, call_of};
+
     ghost held = { λ s. Some s.held.items };
 
     ghost faults = { λ s. s.faults };
@@ -116,6 +137,14 @@ impl Sink for MemSink {
         ensures failed { OnErr result (HasRisen (⟦<MemSink as Sink>⟧.faults self.old) (⟦<MemSink as Sink>⟧.faults self.new)) }
         ensures full { IfOk result (λ n. n ≡ 0 → 0 < length from.now → HasRisen (⟦<MemSink as Sink>⟧.faults self.old) (⟦<MemSink as Sink>⟧.faults self.new)) }
         ensures count { ⟦<MemSink as Sink>⟧.faults self.old ≤ ⟦<MemSink as Sink>⟧.faults self.new }
+
+        // It fails at the calls that it was told and at no other, and takes what it has room for.
+        ensures fails { IsErr result ↔ Contains (failing_of self.old) (call_of self.old) }
+        ensures takes { IfOk result (λ n. n ≡ min (length from.now) (space_of self.old)) }
+        ensures space { IfOk result (λ n. space_of self.new ≡ space_of self.old - n) }
+        ensures lost { OnErr result (space_of self.new ≡ space_of self.old) }
+        ensures told { failing_of self.new ≡ failing_of self.old }
+        ensures next { call_of self.new ≡ min (call_of self.old + 1) (2 ^ 64 - 1) }
         ensures steady { IfOk result (λ n. 0 < n → ⟦<MemSink as Sink>⟧.faults self.new ≡ ⟦<MemSink as Sink>⟧.faults self.old) }
         ensures nothing { IfOk result (λ n. length from.now ≡ 0 → ⟦<MemSink as Sink>⟧.faults self.new ≡ ⟦<MemSink as Sink>⟧.faults self.old) }
     {

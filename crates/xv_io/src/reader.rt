@@ -1,6 +1,6 @@
 //! A reader of lines, which reads ahead in large pieces.
 
-ghost use Rattle.std.specs.Prelude.{◌≡◌, ◌<◌, ◌≤◌, ◌+◌, ◌⊎◌, [], true, false, OnOk, OnErr, length, slice_range};
+ghost use Rattle.std.specs.Prelude.{◌≡◌, ◌≢◌, ◌<◌, ◌≤◌, ◌+◌, ◌⊎◌, [], true, false, OnOk, OnErr, length, slice_range};
 ghost use Rattle.std.specs.Io.KnownBytes.{IsAtEnd, Keeps};
 ghost use Rattle.xv_io.specs.Faults.{HasRisen};
 ghost use Rattle.xv_io.specs.Reading.{Reading, rest, GivesLine, HasLongLine, HasNoLine, IsInOrder, IsMoved, line_length};
@@ -91,6 +91,7 @@ impl LineReader {
         ensures end { result ≡ Next.End → HasNoLine self.old false }
         ensures more { result ≡ Next.More → (self.new ≡ self.old) × (self.old.ended ≡ false) × (length self.old.ahead ≤ 256) }
         ensures short { result ≡ Next.Line → length self.new.line ≤ 256 }
+        ensures stays { result ≢ Next.Line → self.new ≡ self.old }
         ensures ended { self.new.ended ≡ self.old.ended }
         ensures rises { result ≡ Next.Line → self.old.given < self.new.given }
         ensures given { self.old.given ≤ self.new.given }
