@@ -4,3 +4,4 @@ pub mod Standing
 pub mod Refusals
 pub mod Inputs
 pub mod Running
+pub mod Top

@@ -4,12 +4,19 @@ ghost use Rattle.std.specs.Prelude.{◌≡◌, ◌↔◌, IsTrue, ◌∷◌, [],
 
 use xv_base::Word;
 
+/// Whether a word is `run`.
+fn names_run(word: &Word) -> bool
+    ensures { IsTrue result ↔ (word.now ≡ codes "run") }
+{
+    word.bytes() == b"run".as_slice()
+}
+
 /// Whether the words are the command `run`.
 pub fn is_run(words: &[Word]) -> bool
     ensures { IsTrue result ↔ (words.now ≡ codes "run" ∷ []) }
 {
     match words {
-        [word] => word.bytes() == b"run".as_slice(),
+        [word] => names_run(word),
         _ => false,
     }
 }

@@ -11,5 +11,6 @@ mod report;
 mod run;
 mod state;
 mod stop;
+mod top;
 
 fn main() {}

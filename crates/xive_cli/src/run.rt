@@ -40,6 +40,7 @@ pub fn read_header<S: Source, K: Sink>(
     requires given { input.old.reader.given ≤ 16777216 }
     ensures goes { IfOk result (λ b. GoesOn input.old (S.left source.old) input.new (S.left source.new)) }
     ensures stage { IfOk result (λ b. input.new.parser.stage ≡ AtWork b) }
+    ensures given { input.new.reader.given ≤ 16777216 }
     ensures board { IfOk result IsBoard }
     ensures plain { IfOk result IsPlain }
     ensures stop { IfErr result (λ stop. StopsKnown stop None input.old (S.left source.old) (S.faults source.old) (S.faults source.new) (K.faults sink.old) (K.faults sink.new)) }

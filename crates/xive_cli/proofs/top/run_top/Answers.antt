@@ -1,0 +1,86 @@
+use Rattle.std.proofs.Common.{◌≡◌, [], List, ℕ, Some, None, sym, ◌∙◌, subst}
+use Rattle.std.specs.Prelude.{codes}
+use Rattle.xv_io.specs.Gathered.{Puts}
+use Rattle.xv_model.specs.declared.board.Board.{Board}
+use Rattle.board_script.specs.Script.{Refused as Rejected, TooLong as Exceeds}
+use Rattle.xive_cli.specs.Inputs.{StopsKnown, IfStillTold}
+use Rattle.xive_cli.specs.Top.{StopsOnBoard, HasToldAll}
+use Rattle.xive_cli.proofs.Tops.{account_written, refused_at_work, too_long_at_work, refused_in_header, too_long_in_header}
+use Rattle.xive_cli.proofs.top.run_top.Goals as goal
+
+pub returns-in-Err-clause-refused : goal.returns-in-Err-clause-refused
+returns-in-Err-clause-refused g c = λ is.
+    let e = c.in-Err.ensures {u = tt} in
+    let r = c.give_up.ensures.refused is in
+    let k0 = g.K.Sink.held c.args.sink.now in
+    let k1 = g.K.Sink.held c.read_header.new.sink in
+    let left = g.S.Source.left c.args.source.now in
+    let w = c.read_header.new.output.writer in
+    let f = g.S.Source.faults c.args.source.now in
+    let f' = g.S.Source.faults c.read_header.new.source in
+    let d = g.K.Sink.faults c.args.sink.now in
+    let d' = g.K.Sink.faults c.read_header.new.sink in
+    let stop = subst (λ stop. StopsKnown stop None c.new-input.result left f f' d d') r.1 e.stop in
+    let puts = subst (λ stop. IfStillTold stop (Puts [] k0 w k1 [])) r.1 (subst (λ (w0 : List ℕ). IfStillTold c.in-Err.stop (Puts w0 k0 w k1 [])) c.new-output.ensures e.puts) in
+    refused_in_header c.new-input.result left w k0 k1 (g.K.Sink.held c.give_up.new.sink) f f' d d' r.0 (record { parser = c.new-input.ensures.parser; ahead = c.new-input.ensures.ahead; given = c.new-input.ensures.given }) stop puts r.2
+
+pub returns-in-Err-clause-too_long : goal.returns-in-Err-clause-too_long
+returns-in-Err-clause-too_long g c = λ is.
+    let e = c.in-Err.ensures {u = tt} in
+    let r = c.give_up.ensures.too_long is in
+    let k0 = g.K.Sink.held c.args.sink.now in
+    let k1 = g.K.Sink.held c.read_header.new.sink in
+    let left = g.S.Source.left c.args.source.now in
+    let w = c.read_header.new.output.writer in
+    let f = g.S.Source.faults c.args.source.now in
+    let f' = g.S.Source.faults c.read_header.new.source in
+    let d = g.K.Sink.faults c.args.sink.now in
+    let d' = g.K.Sink.faults c.read_header.new.sink in
+    let stop = subst (λ stop. StopsKnown stop None c.new-input.result left f f' d d') r.0 e.stop in
+    let puts = subst (λ stop. IfStillTold stop (Puts [] k0 w k1 [])) r.0 (subst (λ (w0 : List ℕ). IfStillTold c.in-Err.stop (Puts w0 k0 w k1 [])) c.new-output.ensures e.puts) in
+    too_long_in_header c.new-input.result left w k0 k1 (g.K.Sink.held c.give_up.new.sink) f f' d d' (record { parser = c.new-input.ensures.parser; ahead = c.new-input.ensures.ahead; given = c.new-input.ensures.given }) stop puts r.1
+
+pub returns-in-Ok-run_board-clause-done : goal.returns-in-Ok-run_board-clause-done
+returns-in-Ok-run_board-clause-done g c = λ _.
+    let e = c.in-Ok.ensures {u = tt} in
+    let k0 = g.K.Sink.held c.args.sink.now in
+    let k1 = g.K.Sink.held c.read_header.new.sink in
+    let k2 = g.K.Sink.held c.run_board.new.sink in
+    let left1 = g.S.Source.left c.read_header.new.source in
+    let w = c.read_header.new.output.writer in
+    let i1 = c.read_header.new.input in
+    let puts = subst (λ (w0 : List ℕ). Puts w0 k0 w k1 []) c.new-output.ensures e.puts in
+    let told = subst (λ (b : Board). HasToldAll b i1 left1 w k1 [] k2) (c.in-Ok-build.ensures {u = tt}).board (c.in-Ok-run_board.ensures {u = tt}).done in
+    account_written c.in-Ok.board c.new-input.result i1 (g.S.Source.left c.args.source.now) left1 w k0 k1 k2 (record { parser = c.new-input.ensures.parser; ahead = c.new-input.ensures.ahead; given = c.new-input.ensures.given }) e.goes puts told
+
+pub returns-clause-refused : goal.returns-clause-refused
+returns-clause-refused g c = λ is.
+    let e = c.in-Ok.ensures {u = tt} in
+    let r = c.give_up-in-Err-run_board.ensures.refused is in
+    let k0 = g.K.Sink.held c.args.sink.now in
+    let k1 = g.K.Sink.held c.read_header.new.sink in
+    let k2 = g.K.Sink.held c.run_board.new.sink in
+    let left1 = g.S.Source.left c.read_header.new.source in
+    let w = c.read_header.new.output.writer in
+    let w' = c.run_board.new.output.writer in
+    let i1 = c.read_header.new.input in
+    let puts = subst (λ (w0 : List ℕ). Puts w0 k0 w k1 []) c.new-output.ensures e.puts in
+    let told = subst (λ stop. StopsOnBoard stop c.in-Ok.board i1 left1 w k1 w' k2 (g.S.Source.faults c.read_header.new.source) (g.S.Source.faults c.run_board.new.source) (g.K.Sink.faults c.read_header.new.sink) (g.K.Sink.faults c.run_board.new.sink)) r.1
+        (subst (λ (b : Board). StopsOnBoard c.in-Err-run_board.stop b i1 left1 w k1 w' k2 (g.S.Source.faults c.read_header.new.source) (g.S.Source.faults c.run_board.new.source) (g.K.Sink.faults c.read_header.new.sink) (g.K.Sink.faults c.run_board.new.sink)) (c.in-Ok-build.ensures {u = tt}).board (c.in-Err-run_board.ensures {u = tt}).stop) in
+    refused_at_work c.in-Ok.board c.new-input.result i1 (g.S.Source.left c.args.source.now) left1 w w' k0 k1 k2 (g.K.Sink.held c.give_up-in-Err-run_board.new.sink) r.0 (record { parser = c.new-input.ensures.parser; ahead = c.new-input.ensures.ahead; given = c.new-input.ensures.given }) e.goes puts told r.2
+
+pub returns-clause-too_long : goal.returns-clause-too_long
+returns-clause-too_long g c = λ is.
+    let e = c.in-Ok.ensures {u = tt} in
+    let r = c.give_up-in-Err-run_board.ensures.too_long is in
+    let k0 = g.K.Sink.held c.args.sink.now in
+    let k1 = g.K.Sink.held c.read_header.new.sink in
+    let k2 = g.K.Sink.held c.run_board.new.sink in
+    let left1 = g.S.Source.left c.read_header.new.source in
+    let w = c.read_header.new.output.writer in
+    let w' = c.run_board.new.output.writer in
+    let i1 = c.read_header.new.input in
+    let puts = subst (λ (w0 : List ℕ). Puts w0 k0 w k1 []) c.new-output.ensures e.puts in
+    let told = subst (λ stop. StopsOnBoard stop c.in-Ok.board i1 left1 w k1 w' k2 (g.S.Source.faults c.read_header.new.source) (g.S.Source.faults c.run_board.new.source) (g.K.Sink.faults c.read_header.new.sink) (g.K.Sink.faults c.run_board.new.sink)) r.0
+        (subst (λ (b : Board). StopsOnBoard c.in-Err-run_board.stop b i1 left1 w k1 w' k2 (g.S.Source.faults c.read_header.new.source) (g.S.Source.faults c.run_board.new.source) (g.K.Sink.faults c.read_header.new.sink) (g.K.Sink.faults c.run_board.new.sink)) (c.in-Ok-build.ensures {u = tt}).board (c.in-Err-run_board.ensures {u = tt}).stop) in
+    too_long_at_work c.in-Ok.board c.new-input.result i1 (g.S.Source.left c.args.source.now) left1 w w' k0 k1 k2 (g.K.Sink.held c.give_up-in-Err-run_board.new.sink) (record { parser = c.new-input.ensures.parser; ahead = c.new-input.ensures.ahead; given = c.new-input.ensures.given }) e.goes puts told r.1
