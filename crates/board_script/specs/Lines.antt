@@ -51,12 +51,12 @@ header_of turns.Actors word rest = number_line_of (codes "actors") 1 17 word res
 header_of turns.Esb word rest = pages_line_of word rest
 header_of turns.Go word rest = if is_word (codes "go") word && is_blank rest then Some said.Go else None
 
--- the operation that sets a pair, by what stands after its name
 -- the operation that sets a pair, where there is one and no word stands after it
 abbrev pub set_by : Option ℕ → List ℕ → Option PqOp
 set_by (Some pq) rest = if is_blank rest then Some (Set pq) else None
 set_by None rest = None
 
+-- the operation that sets a pair, by what stands after its name
 abbrev pub set_of : List ℕ → Option PqOp
 set_of rest = set_by (pair_of (word_of rest)) (rest_of rest)
 

@@ -21,7 +21,8 @@ pub struct Input {
     pub parser: Parser,
 }
 
-/// A line that is too long. The parser refuses each of them alike.
+/// What stands in for a line that is too long, of which the reader keeps nothing. The parser refuses each of
+/// them alike.
 const LONG_LINE: [u8; LONGEST + 1] = [b'#'; LONGEST + 1];
 
 impl Input {

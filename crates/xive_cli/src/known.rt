@@ -15,7 +15,8 @@ impl Known for Machine {
     }
 
     fn initialised(&self, s: u32) -> bool {
-        let _claimed = s;
+        // The board has no ranges, so each of its sources is claimed.
+        let _ = s;
         true
     }
 

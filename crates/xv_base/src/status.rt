@@ -6,7 +6,7 @@ ghost use Rattle.xv_base.specs.Statuses.{status_number};
 /// How a run of a program ends.
 #[derive(Clone, Copy, Debug, PartialEq, Eq)]
 pub enum Status {
-    /// The input was read to its end, and the whole output is written.
+    /// The input was read to its end or to its `end` line, and the whole output is written.
     Done,
     /// An entry of a checked account isn't legal.
     Illegal,

@@ -14,7 +14,7 @@ pub trait Sink {
     /// How often it failed.
     ghost faults: { Self → ℕ };
 
-    /// Appends the first bytes of a piece, and gives how many. None of a piece that isn't empty is a fault too.
+    /// Appends the first bytes of a piece, and gives how many. Taking nothing of a piece that isn't empty is a fault too.
     fn write(&mut self, from: &[u8]) -> Result<usize, Failed>
         ensures bound { IfOk result (λ n. n ≤ length from.now) }
         ensures bytes { WriteAppends (held self.old) (held self.new) result from.now }
