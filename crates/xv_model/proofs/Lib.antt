@@ -1,5 +1,6 @@
 pub mod Beginnings
 pub mod HalvesLemmas
+pub mod MoreLines
 pub mod OneAccount
 pub mod SmallPairs
 pub mod Sums

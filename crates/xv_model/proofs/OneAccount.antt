@@ -62,6 +62,14 @@ one_part z line h p q a b l m =
       | inr longer ↦ let r = goes_on z line h q p a.begins b.begins l m longer in ended line h p q a b.begins r.0 r.1
     ]
 
+-- a beginning of a line's entries is a beginning of all of them
+pub begins_part : (z : Start) (line : Line) (h p q : List Entry) → IsPart line h p → Begins line h q → IsLegal z (p ++ h) → IsLegal z (q ++ h) → (r : List Entry) × (p ≡ r ++ q)
+begins_part z line h p q a b l m =
+    elim (cases_lt (length p) (length q)) [
+      | inl shorter ↦ let r = goes_on z line h q p a.begins b l m (omega arith) in ([], sym (ended line h p q a b r.0 r.1))
+      | inr longer ↦ goes_on z line h p q b a.begins m l longer
+    ]
+
 -- an account before later entries of a legal one is legal
 pub legal_before : (z : Start) (p h : List Entry) → IsLegal z (p ++ h) → IsLegal z h
 legal_before z [] h l = l
