@@ -1,8 +1,11 @@
 -- Reading on, where more was read ahead.
-use Rattle.std.proofs.Common.{ℕ, ◌≡◌, ◌+◌, ◌-◌, ◌≤◌, ◌<◌, Bool, true, false, List, [], ◌++◌, length, Option, Some, None, refl, sym, ◌∙◌, ap, subst, arith, inl, inr}
-use Rattle.std.specs.Io.KnownBytes.{Keeps, IsAtEnd}
+use Rattle.std.proofs.Common.{ℕ, ◌≡◌, ◌+◌, ◌-◌, ◌≤◌, ◌<◌, Bool, true, false, List, [], ◌++◌, length, take, Option, Some, None, refl, sym, ◌∙◌, ap, subst, arith, inl, inr, append-nil}
+use Rattle.std.specs.Io.KnownBytes.{Keeps, IsAtEnd, Appends}
+use Rattle.std.proofs.lemmas.List.{take_at}
 use Rattle.xv_model.specs.declared.board.Board.{Board}
-use Rattle.xv_io.specs.Faults.{HasRisen}
+use Rattle.xv_io.specs.Faults.{HasRisen, AppendsPrefix}
+use Rattle.xv_io.specs.Gathered.{Puts}
+use Rattle.xv_io.proofs.Puts.{puts_both, prefix_after_put}
 use Rattle.board_script.proofs.Reading.{IsNotEnd}
 use Rattle.xv_io.specs.Reading.{Reading, rest, lines_left, too_many_left, Meets}
 use Rattle.xv_base.specs.Lines.{lines_within, are_too_many}
@@ -16,7 +19,7 @@ use Rattle.board_script.specs.Script.{Script, Accepted, Refused as Rejected, Too
 use Rattle.xive_cli.specs.declared.input.Input.{Input}
 use Rattle.xive_cli.specs.declared.stop.Stop.{Stop}
 use Rattle.xive_cli.specs.declared.stop.Stop.TheVariants.{ReadFault, WriteFault, Refused, TooLong}
-use Rattle.xive_cli.specs.Inputs.{script_left, Says, SaysKnown, Understands, StopsAt, StopsKnown, CannotGoOn, GoesOn, IfStillTold}
+use Rattle.xive_cli.specs.Inputs.{script_left, Says, SaysKnown, Understands, StopsAt, StopsKnown, CannotGoOn, GoesOn, Leaves}
 
 -- a count that rose from a later value rose from an earlier one
 pub risen_from : (a b c : ℕ) → a ≤ b → HasRisen b c → HasRisen a c
@@ -102,12 +105,27 @@ stops_by a b None mid TooLong board board' s0 s s' k0 k k' e l m g h = tt
 stops_by a b (Some xs) None TooLong board board' s0 s s' k0 k k' e l m g h = absurd g
 stops_by a b (Some xs) (Some ys) TooLong board board' s0 s s' k0 k k' e l m g h = subst (λ v. StopsAt TooLong v a xs) e (stops_goes a b xs ys TooLong board g h)
 
--- what follows of what was put, where it isn't the sink that failed
-pub still_told : (stop : Stop) (P Q : Type 0) → (P → Q) → IfStillTold stop P → IfStillTold stop Q
-still_told ReadFault P Q f p = f p
-still_told WriteFault P Q f p = tt
-still_told (Refused fault) P Q f p = f p
-still_told TooLong P Q f p = f p
+-- what the sink got of what was gathered and a text is the first bytes of them
+pub prefix_of_put : (w w1 : List ℕ) (k k1 : Option (List ℕ)) (x : List ℕ) → Puts w k w1 k1 x → AppendsPrefix k k1 (w ++ x)
+prefix_of_put w w1 k k1 x p = (length p.sent, subst (Appends k k1) (sym (take_at p.sent w1 (length p.sent) refl) ∙ ap (take (length p.sent)) p.kept) p.appended)
+
+-- of what was gathered when nothing more was put, the first bytes were written
+pub flush_failed : (w w1 : List ℕ) (k k1 k2 : Option (List ℕ)) → Puts w k w1 k1 [] → AppendsPrefix k1 k2 w1 → AppendsPrefix k k2 w
+flush_failed w w1 k k1 k2 p l = subst (AppendsPrefix k k2) (append-nil w) (prefix_after_put w w1 k k1 k2 [] [] p (subst (AppendsPrefix k1 k2) (sym (append-nil w1)) l))
+
+-- what is left where nothing more was put
+pub leaves_put : (stop : Stop) (w w1 : List ℕ) (k k1 : Option (List ℕ)) → Puts w k w1 k1 [] → Leaves stop w k w1 k1
+leaves_put ReadFault w w1 k k1 p = p
+leaves_put WriteFault w w1 k k1 p = subst (AppendsPrefix k k1) (append-nil w) (prefix_of_put w w1 k k1 [] p)
+leaves_put (Refused fault) w w1 k k1 p = p
+leaves_put TooLong w w1 k k1 p = p
+
+-- what is left after nothing more was put
+pub left_after : (stop : Stop) (w w1 w2 : List ℕ) (k k1 k2 : Option (List ℕ)) → Puts w k w1 k1 [] → Leaves stop w1 k1 w2 k2 → Leaves stop w k w2 k2
+left_after ReadFault w w1 w2 k k1 k2 p l = puts_both w w1 w2 k k1 k2 [] [] p l
+left_after WriteFault w w1 w2 k k1 k2 p l = flush_failed w w1 k k1 k2 p l
+left_after (Refused fault) w w1 w2 k k1 k2 p l = puts_both w w1 w2 k k1 k2 [] [] p l
+left_after TooLong w w1 w2 k k1 k2 p l = puts_both w w1 w2 k k1 k2 [] [] p l
 
 -- the header goes on behind a line that says nothing
 pub header_at_nothing : (stage stage' : Stage) → IsInHeader stage → IsLineAt stage stage' line.Nothing → IsInHeader stage'

@@ -1,7 +1,8 @@
 -- What is read of a script, line after line.
 use Rattle.std.specs.Prelude.{ℕ, ◌≡◌, ◌≤◌, Bool, true, false, ◌<◌, List, [], length, Option, Some, None, ⊤}
 use Rattle.xv_model.specs.declared.board.Board.{Board}
-use Rattle.xv_io.specs.Faults.{HasRisen}
+use Rattle.xv_io.specs.Faults.{HasRisen, AppendsPrefix}
+use Rattle.xv_io.specs.Gathered.{Puts}
 use Rattle.xv_io.specs.Reading.{lines_left, too_many_left, Meets}
 use Rattle.board_script.specs.declared.lines.Line.{Line}
 use Rattle.board_script.specs.declared.lines.Line.TheVariants as line
@@ -82,7 +83,7 @@ pub record NeedsMore (old new : Input) : Type 0 where
   pub ended : old.reader.ended ≡ false
   pub ahead : length old.reader.ahead ≤ 256
 
--- a fact about what was put, where it isn't the sink that failed
-abbrev pub IfStillTold : Stop → Type 0 → Type 0
-IfStillTold WriteFault P = ⊤
-IfStillTold _ P = P
+-- what is left of what was gathered, where nothing more was put: where the sink failed, some of its first bytes were written
+abbrev pub Leaves : Stop → List ℕ → Option (List ℕ) → List ℕ → Option (List ℕ) → Type 0
+Leaves WriteFault gathered held gathered' held' = AppendsPrefix held held' gathered
+Leaves _ gathered held gathered' held' = Puts gathered held gathered' held' []

@@ -1,12 +1,14 @@
 -- Runs of a script.
 use Rattle.std.specs.Prelude.{ℕ, ◌≡◌, ◌≤◌, List, [], ◌∷◌, ◌++◌, map, Option, Some, None, ⊤}
-use Rattle.xv_io.specs.Faults.{HasRisen}
+use Rattle.xv_io.specs.Faults.{HasRisen, AppendsPrefix}
 use Rattle.xv_io.specs.Gathered.{Puts}
 use Rattle.xv_model.specs.declared.board.Board.{Board}
+use Rattle.xv_model.specs.declared.operations.Op.{Op}
+use Rattle.xv_model.specs.declared.outcomes.Outcome.{Outcome}
 use Rattle.xv_model.specs.declared.entries.Entry.{Entry}
 use Rattle.xv_model.specs.Start.{Start, start}
 use Rattle.xv_model.specs.Legal.{IsLegal, legal}
-use Rattle.xv_model.specs.Scripts.{Line, Begins, Follows}
+use Rattle.xv_model.specs.Scripts.{Line, Begins, Follows, IsBeginning}
 use Rattle.xv_model.specs.Text.{entry_line, entries_text, next_index}
 use Rattle.board_script.specs.declared.stage.Stage.TheVariants.{Work as AtWork}
 use Rattle.board_script.specs.Script.{Script, Accepted, Refused as Rejected, TooLong as Exceeds, WorkLine, line_for}
@@ -42,6 +44,18 @@ RunsLine w m m' gathered held gathered' held' =
     (z : Start) (h : List Entry) → StandsFor m z h → IsLegal z h →
     (part : List Entry) × RunsPart z (line_for w) m' gathered held gathered' held' h part × (next_op w.work part (part ++ h) ≡ None)
 
+-- a line failed: whatever legal account the machine stood for, some entries of the line are legal after it, and of what was gathered and their lines the first bytes were written
+abbrev pub FailsIn : WorkLine → Machine → List ℕ → Option (List ℕ) → Option (List ℕ) → Type 0
+FailsIn w m gathered held held' =
+    (z : Start) (h : List Entry) → StandsFor m z h → IsLegal z h →
+    (part : List Entry) × Begins (line_for w) h part × IsLegal z (part ++ h) × AppendsPrefix held held' (gathered ++ part_text z h part)
+
+-- an entry failed: it is legal after each account that the machine stood for, and of what was gathered and its line the first bytes were written
+pub record FailsAt (m : Machine) (actor : ℕ) (op : Op) (gathered : List ℕ) (held held' : Option (List ℕ)) : Type 0 where
+  pub outcome : Outcome
+  pub is_legal : (z : Start) (h : List Entry) → StandsFor m z h → outcome ≡ legal z h op
+  pub written : AppendsPrefix held held' (gathered ++ entry_line m.count (record { actor = actor; op = op; outcome = outcome }))
+
 -- these work lines have run: the account that follows them is legal, the machine stands for it, and its entries were put
 pub record HasRun (b : Board) (m : Machine) (gathered : List ℕ) (held : Option (List ℕ)) (gathered' : List ℕ) (held' : Option (List ℕ)) (work : List WorkLine) (h : List Entry) : Type 0 where
   pub follows : Follows (map line_for work) h
@@ -74,9 +88,31 @@ pub record HasRunTo (b : Board) (i : Input) (left : Option (List ℕ)) (m : Mach
   pub is_script : IsScript i left (end work)
   pub ran : HasRun b m gathered held gathered' held' work account
 
+-- an account follows what was read of a script, and is legal: without a board there is none
+abbrev pub RanBy : Option Board → List WorkLine → List Entry → Type 0
+RanBy (Some b) work h = Follows (map line_for work) h × IsLegal (start b) h
+RanBy None work h = h ≡ []
+
+-- the account of a script, whatever became of it
+abbrev pub RunsAs : Script → List Entry → Type 0
+RunsAs (Accepted b work) h = RanBy (Some b) work h
+RunsAs (Rejected fault so_far) h = RanBy so_far.board so_far.work h
+RunsAs (Exceeds so_far) h = RanBy so_far.board so_far.work h
+
+-- each account of the script of known bytes begins with this one
+abbrev pub IsSoFar : Input → Option (List ℕ) → List Entry → Type 0
+IsSoFar i None g = ⊤
+IsSoFar i (Some xs) g = (h : List Entry) → RunsAs (script_left i [] xs) h → IsBeginning g h
+
+-- where the source or the sink failed at work: of what was gathered and the entries of an account that each account of the script begins with, the first bytes were written
+pub record FaultsAtWork (b : Board) (i : Input) (left : Option (List ℕ)) (gathered : List ℕ) (held held' : Option (List ℕ)) : Type 0 where
+  pub account : List Entry
+  pub so_far : IsSoFar i left account
+  pub written : AppendsPrefix held held' (gathered ++ entries_text (start b) account)
+
 -- why the work lines of a script stopped, after those which have run
 abbrev pub StopsAtWork : Stop → Board → Input → Option (List ℕ) → Machine → List ℕ → Option (List ℕ) → List ℕ → Option (List ℕ) → ℕ → ℕ → ℕ → ℕ → Type 0
-StopsAtWork ReadFault b i left m w held w' held' s s' k k' = HasRisen s s'
-StopsAtWork WriteFault b i left m w held w' held' s s' k k' = HasRisen k k'
+StopsAtWork ReadFault b i left m w held w' held' s s' k k' = HasRisen s s' × FaultsAtWork b i left w held held'
+StopsAtWork WriteFault b i left m w held w' held' s s' k k' = HasRisen k k' × FaultsAtWork b i left w held held'
 StopsAtWork (Refused fault) b i left m w held w' held' s s' k k' = HasRunTo b i left m w held w' held' (λ work. Rejected fault (record { board = Some b; work = work }))
 StopsAtWork TooLong b i left m w held w' held' s s' k k' = HasRunTo b i left m w held w' held' (λ work. Exceeds (record { board = Some b; work = work }))

@@ -1,12 +1,12 @@
 //! The lines of a source, and what they say.
 
-ghost use Rattle.std.specs.Prelude.{◌≡◌, ◌<◌, ◌≤◌, [], length, false, true, IfOk, IfErr, MatchResult, IfSome, IfNone, OnOk, OnErr};
+ghost use Rattle.std.specs.Prelude.{◌≡◌, ◌<◌, ◌≤◌, [], length, false, true, IfOk, IfErr, IfSome, IfNone, OnOk, OnErr};
 ghost use Rattle.std.specs.Io.KnownBytes.{IsAtEnd};
 ghost use Rattle.xv_io.specs.Faults.{HasRisen};
 ghost use Rattle.xv_io.specs.Gathered.{Puts};
 ghost use Rattle.board_script.specs.Parsing.{new_parsing};
 ghost use Rattle.board_script.specs.Stages.{whole_board};
-ghost use Rattle.xive_cli.specs.Inputs.{IsOpen, Understands, IsSaidAt, Rises, NeedsMore, CannotGoOn, SaysKnown, StopsKnown, IfStillTold};
+ghost use Rattle.xive_cli.specs.Inputs.{IsOpen, Understands, IsSaidAt, Rises, NeedsMore, CannotGoOn, SaysKnown, StopsKnown, Leaves};
 
 use crate::output::Output;
 use crate::stop::Stop;
@@ -83,7 +83,8 @@ pub fn read_line<S: Source, K: Sink>(
     ensures stop { IfErr result (λ stop. StopsKnown stop (whole_board input.old.parser.stage) input.old (S.left source.old) (S.faults source.old) (S.faults source.new) (K.faults sink.old) (K.faults sink.new)) }
     ensures ended { input.new.reader.ended ≡ true → IsAtEnd (S.left source.new) }
     ensures bounded { input.new.reader.given ≤ 16777216 }
-    ensures puts { let put = Puts output.old.writer (K.held sink.old) output.new.writer (K.held sink.new) [] in MatchResult result (λ _. put) (λ stop. IfStillTold stop put) }
+    ensures puts { OnOk result (Puts output.old.writer (K.held sink.old) output.new.writer (K.held sink.new) []) }
+    ensures left { IfErr result (λ stop. Leaves stop output.old.writer (K.held sink.old) output.new.writer (K.held sink.new)) }
     ensures source_count { S.faults source.old ≤ S.faults source.new }
     ensures sink_count { K.faults sink.old ≤ K.faults sink.new }
 {
@@ -93,11 +94,13 @@ pub fn read_line<S: Source, K: Sink>(
             Ok(None) => {}
             Err(stop) => return Err(stop),
         }
-        if output.writer.flush(sink).is_err() {
-            return Err(Stop::WriteFault);
+        match output.writer.flush(sink) {
+            Ok(()) => {}
+            Err(_) => return Err(Stop::WriteFault),
         }
-        if input.reader.fill(source).is_err() {
-            return Err(Stop::ReadFault);
+        match input.reader.fill(source) {
+            Ok(()) => {}
+            Err(_) => return Err(Stop::ReadFault),
         }
     }
 }

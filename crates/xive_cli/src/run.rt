@@ -1,6 +1,6 @@
 //! A run of a script on a machine.
 
-ghost use Rattle.std.specs.Prelude.{◌≡◌, ◌+◌, ◌^◌, ◌<◌, ◌≤◌, ◌∷◌, [], List, IfOk, IfErr, MatchResult, OnOk, OnErr, true, None, IsTrue};
+ghost use Rattle.std.specs.Prelude.{◌≡◌, ◌+◌, ◌^◌, ◌<◌, ◌≤◌, ◌∷◌, [], List, IfOk, IfErr, OnOk, OnErr, true, None, IsTrue};
 ghost use Rattle.std.specs.Io.KnownBytes.{IsAtEnd};
 ghost use Rattle.xv_io.specs.Faults.{HasRisen};
 ghost use Rattle.xv_io.specs.Gathered.{Puts};
@@ -12,8 +12,8 @@ ghost use Rattle.board_script.specs.Stages.{IsInHeader};
 ghost use Rattle.xv_model.specs.Boards.{IsBoard, IsPlain};
 ghost use Rattle.xv_model.specs.Start.{start};
 ghost use Rattle.xive_cli.specs.Standing.{StandsFor};
-ghost use Rattle.xive_cli.specs.Inputs.{GoesOn, StopsKnown, IfStillTold};
-ghost use Rattle.xive_cli.specs.Running.{RunsLine, Makes, HasRunTo, StopsAtWork};
+ghost use Rattle.xive_cli.specs.Inputs.{GoesOn, StopsKnown, Leaves};
+ghost use Rattle.xive_cli.specs.Running.{RunsLine, Makes, FailsAt, FailsIn, HasRunTo, StopsAtWork};
 ghost use Rattle.board_script.specs.Script.{Accepted};
 
 use crate::input::{Input, read_line};
@@ -45,7 +45,8 @@ pub fn read_header<S: Source, K: Sink>(
     ensures plain { IfOk result IsPlain }
     ensures stop { IfErr result (λ stop. StopsKnown stop None input.old (S.left source.old) (S.faults source.old) (S.faults source.new) (K.faults sink.old) (K.faults sink.new)) }
     ensures ended { input.new.reader.ended ≡ true → IsAtEnd (S.left source.new) }
-    ensures puts { let put = Puts output.old.writer (K.held sink.old) output.new.writer (K.held sink.new) [] in MatchResult result (λ _. put) (λ stop. IfStillTold stop put) }
+    ensures puts { OnOk result (Puts output.old.writer (K.held sink.old) output.new.writer (K.held sink.new) []) }
+    ensures left { IfErr result (λ stop. Leaves stop output.old.writer (K.held sink.old) output.new.writer (K.held sink.new)) }
     ensures source_count { S.faults source.old ≤ S.faults source.new }
     ensures sink_count { K.faults sink.old ≤ K.faults sink.new }
 {
@@ -73,6 +74,7 @@ fn make_entry<K: Sink>(
     ensures makes { IfOk result (λ outcome. Makes machine.old machine.new (record { actor = actor; op = op.now; outcome = outcome }) output.old.writer (K.held sink.old) output.new.writer (K.held sink.new)) }
     ensures board { machine.new.board ≡ machine.old.board }
     ensures count { machine.new.count ≡ machine.old.count + 1 }
+    ensures fails { OnErr result (FailsAt machine.old actor op.now output.old.writer (K.held sink.old) (K.held sink.new)) }
     ensures failed { OnErr result (HasRisen (K.faults sink.old) (K.faults sink.new)) }
     ensures sink_count { K.faults sink.old ≤ K.faults sink.new }
 {
@@ -80,8 +82,10 @@ fn make_entry<K: Sink>(
     let entry = machine.step(actor, op);
     output.line.clear();
     add_entry(&mut output.line, index, &entry, machine.board());
-    output.put(sink)?;
-    Ok(entry.outcome)
+    match output.put(sink) {
+        Ok(()) => Ok(entry.outcome),
+        Err(failed) => Err(failed),
+    }
 }
 
 /// Runs a work line.
@@ -97,14 +101,17 @@ fn run_line<K: Sink>(
     ensures runs { OnOk result (RunsLine (record { actor = actor; work = work }) machine.old machine.new output.old.writer (K.held sink.old) output.new.writer (K.held sink.new)) }
     ensures board { machine.new.board ≡ machine.old.board }
     ensures few { machine.new.count ≤ machine.old.count + steps_left work }
+    ensures fails { OnErr result (FailsIn (record { actor = actor; work = work }) machine.old output.old.writer (K.held sink.old) (K.held sink.new)) }
     ensures failed { OnErr result (HasRisen (K.faults sink.old) (K.faults sink.new)) }
     ensures sink_count { K.faults sink.old ≤ K.faults sink.new }
 {
     let mut going = work;
     let mut last: Option<Outcome> = None;
     while let Some(op) = going.next(last.as_ref(), &*machine) {
-        let outcome = make_entry(machine, output, sink, actor, &op)?;
-        last = Some(outcome);
+        match make_entry(machine, output, sink, actor, &op) {
+            Ok(outcome) => last = Some(outcome),
+            Err(failed) => return Err(failed),
+        }
     }
     Ok(())
 }

@@ -1,8 +1,8 @@
 use Rattle.std.proofs.Common.{◌≡◌, ◌≤◌, [], Ok, Err, IfOk, subst, sym, ◌∙◌, ap, refl, arith, rules}
 use Rattle.xv_io.specs.Gathered.{Puts}
 use Rattle.board_script.specs.declared.lines.Line.TheVariants as line
-use Rattle.xive_cli.specs.Inputs.{SaysKnown, IsSaidAt, Rises, IfStillTold}
-use Rattle.xive_cli.proofs.ReadingOn.{goes_by, still_told, header_at_nothing, header_at_header}
+use Rattle.xive_cli.specs.Inputs.{SaysKnown, IsSaidAt, Rises}
+use Rattle.xive_cli.proofs.ReadingOn.{goes_by, left_after, header_at_nothing, header_at_header}
 use Rattle.xv_io.proofs.Puts.{puts_both}
 use Rattle.xive_cli.proofs.run.read_header.Goals as goal
 
@@ -39,5 +39,5 @@ loop-board-preserved g c =
       sink_count = omega (arith, e.sink_count);
     }
 
-pub returns-in-Err-clause-puts : goal.returns-in-Err-clause-puts
-returns-in-Err-clause-puts g c = still_told c.in-Err.stop _ _ (puts_both c.args.output.now.writer c.loop-board.output.writer c.read_line.new.output.writer (g.K.Sink.held c.args.sink.now) (g.K.Sink.held c.loop-board.sink) (g.K.Sink.held c.read_line.new.sink) [] [] c.loop-board.invariant.puts) (c.in-Err.ensures {u = tt}).puts
+pub returns-in-Err-clause-left : goal.returns-in-Err-clause-left
+returns-in-Err-clause-left g c = left_after c.in-Err.stop c.args.output.now.writer c.loop-board.output.writer c.read_line.new.output.writer (g.K.Sink.held c.args.sink.now) (g.K.Sink.held c.loop-board.sink) (g.K.Sink.held c.read_line.new.sink) c.loop-board.invariant.puts (c.in-Err.ensures {u = tt}).left

@@ -6,7 +6,8 @@ use Rattle.board_script.specs.Stages.{IsLineAt}
 use Rattle.board_script.specs.Lines.{IsWork}
 use Rattle.board_script.specs.Working.{steps_left}
 use Rattle.xive_cli.specs.Inputs.{SaysKnown, IsSaidAt, Rises}
-use Rattle.xive_cli.proofs.Steps.{nothing_ran, one_nothing, one_work, all_ran, stopped, at_most_given}
+use Rattle.xive_cli.proofs.Steps.{nothing_ran, one_nothing, one_work, all_ran, stopped, at_most_given, line_failed}
+use Rattle.xive_cli.proofs.ReadingOn.{risen_from}
 use Rattle.xive_cli.proofs.run.run_work.Goals as goal
 
 pub loop-actor-preserved-in-Ok-run_line : goal.loop-actor-preserved-in-Ok-run_line
@@ -66,4 +67,16 @@ returns-in-Err-clause-stop g c =
     stopped c.args.machine.now.board c.args.input.now c.loop-actor.input (g.S.Source.left c.args.source.now) (g.S.Source.left c.loop-actor.source) c.loop-actor.machine
     c.args.output.now.writer c.loop-actor.output.writer c.read_line.new.output.writer (g.K.Sink.held c.args.sink.now) (g.K.Sink.held c.loop-actor.sink) (g.K.Sink.held c.read_line.new.sink) c.in-Err.stop
     (g.S.Source.faults c.args.source.now) (g.S.Source.faults c.loop-actor.source) (g.S.Source.faults c.read_line.new.source) (g.K.Sink.faults c.args.sink.now) (g.K.Sink.faults c.loop-actor.sink) (g.K.Sink.faults c.read_line.new.sink)
-    i.stage i.source_count i.sink_count i.runs e.stop e.puts
+    c.requires.stage i.stage i.source_count i.sink_count i.runs e.stop e.left
+
+pub returns-in-Err-run_line-clause-stop : goal.returns-in-Err-run_line-clause-stop
+returns-in-Err-run_line-clause-stop g c =
+    let i = c.loop-actor.invariant in
+    let e = c.in-Ok-Work.ensures {u = tt} in
+    let ran = c.in-Err-run_line.ensures {u = tt} in
+    let said = subst (λ said. SaysKnown c.loop-actor.input (g.S.Source.left c.loop-actor.source) said c.read_line.new.input (g.S.Source.left c.read_line.new.source)) c.in-Ok-Work.field-0-is e.line in (
+      risen_from (g.K.Sink.faults c.args.sink.now) (g.K.Sink.faults c.read_line.new.sink) (g.K.Sink.faults c.run_line.new.sink) (omega (arith, e.sink_count)) ran.failed,
+      line_failed c.args.machine.now.board c.args.input.now c.loop-actor.input c.read_line.new.input (g.S.Source.left c.args.source.now) (g.S.Source.left c.loop-actor.source) (g.S.Source.left c.read_line.new.source) c.loop-actor.machine
+      c.args.output.now.writer c.loop-actor.output.writer c.read_line.new.output.writer (g.K.Sink.held c.args.sink.now) (g.K.Sink.held c.loop-actor.sink) (g.K.Sink.held c.read_line.new.sink) (g.K.Sink.held c.run_line.new.sink)
+      (record { actor = c.in-Ok-Work.actor; work = c.in-Ok-Work.work }) c.requires.stage i.runs said e.puts ran.fails,
+    )
