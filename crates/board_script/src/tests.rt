@@ -7,13 +7,13 @@ use std::process::Abort;
 use xv_model::known::Known;
 use xv_model::operations::{Op, PqOp};
 
-/// Knows no account.
+/// Knows of one source, of no account.
 struct Blind;
 
 impl Known for Blind {
     ghost knows = { λ it z h. ⊥ };
 
-    ghost sources = { λ it. 0 };
+    ghost sources = { λ it. 1 };
 
     fn out(&self, _s: u32) -> u64 {
         0

@@ -1,7 +1,7 @@
 //! The report at the end of an account.
 
-ghost use Rattle.std.specs.Prelude.{◌≡◌, ◌≤◌, List, OnOk, OnErr};
-ghost use Rattle.xv_io.specs.Faults.{HasRisen};
+ghost use Rattle.std.specs.Prelude.{◌≡◌, ◌≤◌, ◌++◌, List, OnOk, OnErr};
+ghost use Rattle.xv_io.specs.Faults.{HasRisen, AppendsPrefix};
 ghost use Rattle.xv_io.specs.Gathered.{Puts};
 ghost use Rattle.xv_model.specs.declared.entries.Entry.{Entry};
 ghost use Rattle.xv_model.specs.Start.{start};
@@ -17,6 +17,8 @@ use xv_io::{Failed, Sink};
 fn put_sources<K: Sink>(machine: &Machine, output: &mut Output, sink: &mut K) -> Result<(), Failed>
     ensures ok { OnOk result ((h : List Entry) → StandsFor machine.now (start machine.now.board) h →
         Puts output.old.writer (K.held sink.old) output.new.writer (K.held sink.new) (texts_below (source_line (start machine.now.board) h) machine.now.board.limits.sources)) }
+    ensures err { OnErr result ((h : List Entry) → StandsFor machine.now (start machine.now.board) h →
+        AppendsPrefix (K.held sink.old) (K.held sink.new) (output.old.writer ++ texts_below (source_line (start machine.now.board) h) machine.now.board.limits.sources)) }
     ensures failed { OnErr result (HasRisen (K.faults sink.old) (K.faults sink.new)) }
     ensures count { K.faults sink.old ≤ K.faults sink.new }
 {
@@ -36,6 +38,7 @@ fn put_processors<K: Sink>(
     sink: &mut K,
 ) -> Result<(), Failed>
     ensures ok { OnOk result (Puts output.old.writer (K.held sink.old) output.new.writer (K.held sink.new) (texts_below (processor_line (start machine.now.board)) machine.now.board.limits.processors)) }
+    ensures err { OnErr result (AppendsPrefix (K.held sink.old) (K.held sink.new) (output.old.writer ++ texts_below (processor_line (start machine.now.board)) machine.now.board.limits.processors)) }
     ensures failed { OnErr result (HasRisen (K.faults sink.old) (K.faults sink.new)) }
     ensures count { K.faults sink.old ≤ K.faults sink.new }
 {
@@ -50,6 +53,7 @@ fn put_processors<K: Sink>(
 /// Puts the lines of the rings.
 fn put_rings<K: Sink>(threads: u32, output: &mut Output, sink: &mut K) -> Result<(), Failed>
     ensures ok { OnOk result (Puts output.old.writer (K.held sink.old) output.new.writer (K.held sink.new) (texts_below ring_line threads)) }
+    ensures err { OnErr result (AppendsPrefix (K.held sink.old) (K.held sink.new) (output.old.writer ++ texts_below ring_line threads)) }
     ensures failed { OnErr result (HasRisen (K.faults sink.old) (K.faults sink.new)) }
     ensures count { K.faults sink.old ≤ K.faults sink.new }
 {
@@ -69,6 +73,8 @@ pub fn put_report<K: Sink>(
 ) -> Result<(), Failed>
     ensures ok { OnOk result ((h : List Entry) → StandsFor machine.now (start machine.now.board) h →
         Puts output.old.writer (K.held sink.old) output.new.writer (K.held sink.new) (report_text (start machine.now.board) h)) }
+    ensures err { OnErr result ((h : List Entry) → StandsFor machine.now (start machine.now.board) h →
+        AppendsPrefix (K.held sink.old) (K.held sink.new) (output.old.writer ++ report_text (start machine.now.board) h)) }
     ensures failed { OnErr result (HasRisen (K.faults sink.old) (K.faults sink.new)) }
     ensures count { K.faults sink.old ≤ K.faults sink.new }
 {
