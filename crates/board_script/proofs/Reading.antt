@@ -12,7 +12,7 @@ use Rattle.board_script.specs.Lines.{Reading, said_of}
 use Rattle.board_script.specs.declared.stage.Stage.TheVariants.{Work}
 use Rattle.board_script.specs.declared.lines.Said.TheVariants as say
 use Rattle.board_script.specs.Parsing.{Parsing, fed, fed_by, answer_by, parsing_after, parsing_by, parsing_from, finished}
-use Rattle.board_script.specs.Script.{Script, Accepted, Refused, TooLong, WorkLine, so_far, work_with, ended_by, after_line, script_from}
+use Rattle.board_script.specs.Script.{Script, Accepted, Refused, TooLong, WorkLine, so_far, work_with, ended_by, after_line, script_from, work_in, board_in}
 
 -- a fresh line has made nothing
 pub nothing_made : (w : AWork) → IsFresh w → HasMade w w []
@@ -88,12 +88,6 @@ pub record IsMore (work done : List WorkLine) : Type 0 where
   pub later : List WorkLine
   pub whole : done ≡ later ++ work
 
--- the work lines that were read of a script, whatever became of it
-abbrev pub work_in : Script → List WorkLine
-work_in (Accepted b done) = done
-work_in (Refused fault so_far) = so_far.work
-work_in (TooLong so_far) = so_far.work
-
 same_work : (work : List WorkLine) → IsMore work work
 same_work work = record { later = []; whole = refl }
 
@@ -119,12 +113,6 @@ pub more_from : (p : Parsing) (work : List WorkLine) (ls : List (List ℕ)) (t :
 more_from p work [] true = same_work work
 more_from p work [] false = more_ended (finished p) p work
 more_from p work (l ∷ ls) t = more_after (fed p l) p work _ (λ said. more_from (parsing_after p l) (work_with said work) ls t)
-
--- the board that was read of a script, whatever became of it
-abbrev pub board_in : Script → Option Board
-board_in (Accepted b done) = Some b
-board_in (Refused fault so_far) = so_far.board
-board_in (TooLong so_far) = so_far.board
 
 board_ended : (b : Board) (r : Result (Unit {0}) ScriptFault) (p : Parsing) (work : List WorkLine) → p.stage ≡ Work b → board_in (ended_by r p work) ≡ Some b
 board_ended b (Ok it) p work e = ap (λ s. Some (board_at s)) e

@@ -1,5 +1,5 @@
 -- What a script says.
-use Rattle.std.specs.Prelude.{ℕ, Bool, true, false, List, [], ◌∷◌, Option, Ok, Err}
+use Rattle.std.specs.Prelude.{ℕ, Bool, true, false, List, [], ◌∷◌, Option, Some, Ok, Err}
 use Rattle.std.specs.declared.result.Result.{Result}
 use Rattle.xv_base.specs.Lines.{lines_within, are_too_many}
 use Rattle.xv_model.specs.declared.board.Board.{Board}
@@ -65,3 +65,15 @@ script_from p work (l ∷ ls) too_many = after_line (fed p l) p work (λ said. s
 -- the script of bytes, of which fewer than 16 MiB may be given
 abbrev pub script_of : List ℕ → Script
 script_of bytes = script_from new_parsing [] (lines_within 16777216 bytes) (are_too_many 16777216 bytes)
+
+-- the work lines that were read of a script, whatever became of it
+abbrev pub work_in : Script → List WorkLine
+work_in (Accepted b done) = done
+work_in (Refused fault so_far) = so_far.work
+work_in (TooLong so_far) = so_far.work
+
+-- the board that was read of a script, whatever became of it
+abbrev pub board_in : Script → Option Board
+board_in (Accepted b done) = Some b
+board_in (Refused fault so_far) = so_far.board
+board_in (TooLong so_far) = so_far.board

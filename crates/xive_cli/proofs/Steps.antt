@@ -12,7 +12,7 @@ use Rattle.board_script.specs.declared.lines.Line.TheVariants as line
 use Rattle.board_script.specs.declared.stage.Stage.{Stage}
 use Rattle.board_script.specs.declared.stage.Stage.TheVariants.{Work as AtWork}
 use Rattle.board_script.specs.Stages.{board_at, whole_board}
-use Rattle.board_script.specs.Script.{Script, Accepted, Refused as Rejected, TooLong as Exceeds, WorkLine, line_for}
+use Rattle.board_script.specs.Script.{Script, Accepted, Refused as Rejected, TooLong as Exceeds, WorkLine, line_for, board_in, work_in}
 use Rattle.xive_cli.specs.declared.input.Input.{Input}
 use Rattle.xive_cli.specs.declared.machine.Machine.{Machine}
 use Rattle.xive_cli.specs.declared.stop.Stop.{Stop}
@@ -26,7 +26,7 @@ use Rattle.xv_io.specs.Reading.{lines_left, too_many_left}
 use Rattle.xv_model.specs.Legal.{IsLegal}
 use Rattle.xv_model.specs.Scripts.{Begins, Follows}
 use Rattle.xv_model.proofs.MoreLines.{more_lines, more_entries}
-use Rattle.board_script.proofs.Reading.{board_in, board_from, work_in, more_from, IsMore}
+use Rattle.board_script.proofs.Reading.{board_from, more_from, IsMore}
 use Rattle.std.proofs.lemmas.List.{map-append}
 use Rattle.std.proofs.Common.{◌≤◌, ◌<◌, ◌+◌, Bool, true, false, if◌then◌else◌, arith}
 use Rattle.board_script.specs.declared.work.Work.{Work}

@@ -1,9 +1,9 @@
 -- What a whole run writes.
-use Rattle.std.specs.Prelude.{ℕ, ◌≡◌, List, [], ◌∷◌, ◌++◌, map, codes, Option, Some, None, ⊤}
+use Rattle.std.specs.Prelude.{ℕ, ◌≡◌, List, [], ◌∷◌, ◌++◌, map, codes, Option, Some, None, IsSome, ⊤}
 use Rattle.std.specs.Io.KnownBytes.{Appends}
 use Rattle.xv_base.specs.declared.status.Status.{Status}
 use Rattle.xv_base.specs.declared.status.Status.TheVariants as status
-use Rattle.xv_io.specs.Faults.{HasRisen}
+use Rattle.xv_io.specs.Faults.{HasRisen, AppendsPrefix}
 use Rattle.xv_io.specs.Gathered.{Puts}
 use Rattle.xv_model.specs.declared.board.Board.{Board}
 use Rattle.xv_model.specs.declared.entries.Entry.{Entry}
@@ -12,12 +12,13 @@ use Rattle.xv_model.specs.Legal.{IsLegal}
 use Rattle.xv_model.specs.Scripts.{Follows}
 use Rattle.xv_model.specs.Text.{header_text, entries_text, account_text}
 use Rattle.board_script.specs.declared.faults.ScriptFault.{ScriptFault}
-use Rattle.board_script.specs.Script.{Script, Accepted, Refused as Rejected, TooLong as Exceeds, SoFar, WorkLine, line_for, script_of}
+use Rattle.board_script.specs.Script.{Script, Accepted, Refused as Rejected, TooLong as Exceeds, SoFar, WorkLine, line_for, script_of, board_in}
 use Rattle.xive_cli.specs.declared.input.Input.{Input}
 use Rattle.xive_cli.specs.declared.stop.Stop.{Stop}
 use Rattle.xive_cli.specs.declared.stop.Stop.TheVariants.{ReadFault, WriteFault, Refused, TooLong}
 use Rattle.xive_cli.specs.Refusals.{refusal_line}
-use Rattle.xive_cli.specs.Running.{IsScript}
+use Rattle.xive_cli.specs.Running.{IsScript, RanBy, RunsAs}
+use Rattle.xive_cli.specs.Inputs.{script_left}
 
 -- the known bytes are this script
 abbrev pub AreScript : Option (List ℕ) → Script → Type 0
@@ -32,13 +33,25 @@ told_by None h = []
 abbrev pub told_so_far : SoFar → List Entry → List ℕ
 told_so_far so_far h = told_by so_far.board h
 
-abbrev pub RanBy : Option Board → List WorkLine → List Entry → Type 0
-RanBy (Some b) work h = Follows (map line_for work) h × IsLegal (start b) h
-RanBy None work h = h ≡ []
-
 -- the account follows the work lines that were read so far, and is legal
 abbrev pub RanSoFar : SoFar → List Entry → Type 0
 RanSoFar so_far h = RanBy so_far.board so_far.work h
+
+-- what a run writes of a script, for an account of it
+abbrev pub output_of : Script → List Entry → List ℕ
+output_of (Accepted b work) h = account_text b h
+output_of (Rejected fault so_far) h = told_so_far so_far h ++ refusal_line fault
+output_of (Exceeds so_far) h = told_so_far so_far h ++ codes "too-long\n"
+
+-- whatever account the script of the known bytes has, the first bytes of what a run writes of it were appended
+abbrev pub WritesPrefix : Option (List ℕ) → Option (List ℕ) → Option (List ℕ) → Type 0
+WritesPrefix None held held' = ⊤
+WritesPrefix (Some bytes) held held' = (h : List Entry) → RunsAs (script_of bytes) h → AppendsPrefix held held' (output_of (script_of bytes) h)
+
+-- the header of the known bytes is whole
+abbrev pub HasHeader : Option (List ℕ) → Type 0
+HasHeader None = ⊤
+HasHeader (Some bytes) = IsSome (board_in (script_of bytes))
 
 -- the known bytes are a script of a board and work lines, and what was appended is the text of that board and of an account that follows the lines and is legal from the board's start record
 pub record WritesAccount (bytes held held' : Option (List ℕ)) : Type 0 where
@@ -85,12 +98,24 @@ pub record HasToldAll (b : Board) (i : Input) (left : Option (List ℕ)) (gather
   pub legal : IsLegal (start b) account
   pub puts : Puts gathered held gathered' held' (account_text b account)
 
+-- where the source or the sink failed while a board's script ran: whatever account the script has, of what was gathered and what a run writes of it the first bytes were written
+abbrev pub FaultsOnBoard : Input → Option (List ℕ) → List ℕ → Option (List ℕ) → Option (List ℕ) → Type 0
+FaultsOnBoard i None gathered held held' = ⊤
+FaultsOnBoard i (Some xs) gathered held held' = (h : List Entry) → RunsAs (script_left i [] xs) h → AppendsPrefix held held' (gathered ++ output_of (script_left i [] xs) h)
+
 -- why the run of a board stopped
 abbrev pub StopsOnBoard : Stop → Board → Input → Option (List ℕ) → List ℕ → Option (List ℕ) → List ℕ → Option (List ℕ) → ℕ → ℕ → ℕ → ℕ → Type 0
-StopsOnBoard ReadFault b i left w held w' held' s s' k k' = HasRisen s s'
-StopsOnBoard WriteFault b i left w held w' held' s s' k k' = HasRisen k k'
+StopsOnBoard ReadFault b i left w held w' held' s s' k k' = HasRisen s s' × FaultsOnBoard i left w held held'
+StopsOnBoard WriteFault b i left w held w' held' s s' k k' = HasRisen k k' × FaultsOnBoard i left w held held'
 StopsOnBoard (Refused fault) b i left w held w' held' s s' k k' = HasTold b i left w held w' held' (λ work. Rejected fault (record { board = Some b; work = work }))
 StopsOnBoard TooLong b i left w held w' held' s s' k k' = HasTold b i left w held w' held' (λ work. Exceeds (record { board = Some b; work = work }))
+
+-- why a run that was given up answers a write fault, and what that leaves: the sink failed before, and nothing more was written, or it failed at the last line
+abbrev pub FailsToTell : Stop → List ℕ → Option (List ℕ) → Option (List ℕ) → ℕ → ℕ → Type 0
+FailsToTell ReadFault gathered held held' k k' = ⊥
+FailsToTell WriteFault gathered held held' k k' = held' ≡ held
+FailsToTell (Refused fault) gathered held held' k k' = HasRisen k k' × AppendsPrefix held held' (gathered ++ refusal_line fault)
+FailsToTell TooLong gathered held held' k k' = HasRisen k k' × AppendsPrefix held held' (gathered ++ codes "too-long\n")
 
 -- the statuses of a run that was given up
 abbrev pub IsGivenUp : Status → Type 0
@@ -99,6 +124,12 @@ IsGivenUp status.WriteFault = Unit {0}
 IsGivenUp status.Refused = Unit {0}
 IsGivenUp status.TooLong = Unit {0}
 IsGivenUp _ = ⊥
+
+-- the statuses of a fault of the source or the sink
+abbrev pub IsFault : Status → Type 0
+IsFault status.ReadFault = Unit {0}
+IsFault status.WriteFault = Unit {0}
+IsFault _ = ⊥
 
 -- the statuses that the program has so far
 abbrev pub IsBuilt : Status → Type 0

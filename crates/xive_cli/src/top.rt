@@ -1,15 +1,17 @@
 //! The program's call.
 
-ghost use Rattle.std.specs.Prelude.{◌≡◌, ◌≤◌, ◌↔◌, ◌⊎◌, ◌∷◌, [], codes, IfErr, OnOk, OnErr, true};
-ghost use Rattle.std.specs.Io.KnownBytes.{IsAtEnd};
-ghost use Rattle.xv_io.specs.Faults.{HasRisen};
+ghost use Rattle.std.specs.Prelude.{ℕ, ◌≡◌, ◌≤◌, ◌↔◌, ◌⊎◌, List, ◌∷◌, [], ◌++◌, Some, codes, IfErr, OnOk, OnErr, true};
+ghost use Rattle.std.specs.Io.KnownBytes.{Appends, IsAtEnd};
+ghost use Rattle.xv_io.specs.Faults.{HasRisen, AppendsPrefix};
 ghost use Rattle.xv_io.specs.Gathered.{Puts};
 ghost use Rattle.xv_model.specs.Start.{start};
 ghost use Rattle.board_script.specs.declared.faults.ScriptFault.{ScriptFault as AFault};
 ghost use Rattle.board_script.specs.declared.stage.Stage.TheVariants.{Work as AtWork};
 ghost use Rattle.xive_cli.specs.Standing.{StandsFor};
 ghost use Rattle.xive_cli.specs.Refusals.{refusal_line};
-ghost use Rattle.xive_cli.specs.Top.{WritesAccount, WritesRefusal, WritesTooLong, HasToldAll, StopsOnBoard, IsGivenUp, IsBuilt};
+ghost use Rattle.xive_cli.specs.Top.{WritesAccount, WritesRefusal, WritesTooLong, HasToldAll, WritesPrefix, HasHeader, StopsOnBoard, FailsToTell, IsGivenUp, IsFault, IsBuilt};
+ghost use Rattle.xv_model.specs.declared.board.Board.{Board as ABoard};
+ghost use Rattle.board_script.specs.Script.{Accepted, WorkLine, script_of};
 
 use crate::command::is_run;
 use crate::input::Input;
@@ -63,20 +65,26 @@ fn run_board<S: Source, K: Sink>(
 /// Puts the line that is printed, and writes all that is gathered.
 fn put_last<K: Sink>(output: &mut Output, sink: &mut K) -> Result<(), Failed>
     ensures ok { OnOk result (Puts output.old.writer (K.held sink.old) [] (K.held sink.new) output.old.line.items) }
+    ensures err { OnErr result (AppendsPrefix (K.held sink.old) (K.held sink.new) (output.old.writer ++ output.old.line.items)) }
     ensures failed { OnErr result (HasRisen (K.faults sink.old) (K.faults sink.new)) }
     ensures count { K.faults sink.old ≤ K.faults sink.new }
 {
-    output.put(sink)?;
-    output.writer.flush(sink)?;
-    Ok(())
+    match output.put(sink) {
+        Ok(()) => {}
+        Err(failed) => return Err(failed),
+    }
+    match output.writer.flush(sink) {
+        Ok(()) => Ok(()),
+        Err(failed) => Err(failed),
+    }
 }
 
 /// Ends a run that stopped: a refusal and too many bytes are told.
 fn give_up<K: Sink>(stop: Stop, output: &mut Output, sink: &mut K) -> Status
     ensures refused { result ≡ Status.Refused → (fault : AFault) × (stop ≡ Stop.Refused fault) × Puts output.old.writer (K.held sink.old) [] (K.held sink.new) (refusal_line fault) }
     ensures too_long { result ≡ Status.TooLong → (stop ≡ Stop.TooLong) × Puts output.old.writer (K.held sink.old) [] (K.held sink.new) (codes "too-long\n") }
-    ensures read_fault { result ≡ Status.ReadFault → stop ≡ Stop.ReadFault }
-    ensures write_fault { result ≡ Status.WriteFault → (stop ≡ Stop.WriteFault) ⊎ HasRisen (K.faults sink.old) (K.faults sink.new) }
+    ensures read_fault { result ≡ Status.ReadFault → (stop ≡ Stop.ReadFault) × (K.held sink.new ≡ K.held sink.old) }
+    ensures write_fault { result ≡ Status.WriteFault → FailsToTell stop output.old.writer (K.held sink.old) (K.held sink.new) (K.faults sink.old) (K.faults sink.new) }
     ensures given_up { IsGivenUp result }
     ensures count { K.faults sink.old ≤ K.faults sink.new }
 {
@@ -112,9 +120,17 @@ pub fn run_top<S: Source, K: Sink>(alloc: Global, words: &[Word], source: &mut S
     ensures too_long { result ≡ Status.TooLong → WritesTooLong (S.left source.old) (K.held sink.old) (K.held sink.new) }
     ensures read_fault { result ≡ Status.ReadFault → HasRisen (S.faults source.old) (S.faults source.new) }
     ensures write_fault { result ≡ Status.WriteFault → HasRisen (K.faults sink.old) (K.faults sink.new) }
+    ensures prefix { IsFault result → WritesPrefix (S.left source.old) (K.held sink.old) (K.held sink.new) }
+    ensures no_memory { result ≡ Status.NoMemory → HasHeader (S.left source.old) × Appends (K.held sink.old) (K.held sink.new) [] }
     ensures usage { (result ≡ Status.Usage) ↔ (words.now ≡ codes "run" ∷ [] → ⊥) }
     ensures untouched { result ≡ Status.Usage → (source.new ≡ source.old) × (sink.new ≡ sink.old) }
     ensures others { IsBuilt result }
+
+    // A script that no line refuses, and that ends within the limit, is run to its end where no count rises.
+    ensures complete { (bytes : List ℕ) (b : ABoard) (work : List WorkLine) → words.now ≡ codes "run" ∷ [] →
+        S.left source.old ≡ Some bytes → script_of bytes ≡ Accepted b work →
+        (HasRisen (S.faults source.old) (S.faults source.new) → ⊥) → (HasRisen (K.faults sink.old) (K.faults sink.new) → ⊥) →
+        (result ≡ Status.Done) ⊎ (result ≡ Status.NoMemory) }
     ensures source_count { S.faults source.old ≤ S.faults source.new }
     ensures sink_count { K.faults sink.old ≤ K.faults sink.new }
 {
