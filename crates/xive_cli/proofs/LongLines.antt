@@ -1,13 +1,12 @@
 -- Lines that are too long.
-use Rattle.std.proofs.Common.{ℕ, ◌≡◌, ◌<◌, Bool, true, false, List, Option, Some, None, Ok, Err, refl, sym, ◌∙◌, ap, subst, arith}
+use Rattle.std.proofs.Common.{ℕ, ◌≡◌, ◌<◌, List, Option, Some, None, refl, sym, ◌∙◌, ap}
 use Rattle.std.proofs.lemmas.Bool.{lt-ltb}
-use Rattle.std.specs.Prelude.{nat_lt, ◌||◌, not, if◌then◌else◌, length}
+use Rattle.std.specs.Prelude.{◌||◌, not, if◌then◌else◌, length}
 use Rattle.board_script.specs.declared.faults.ScriptFault.{ScriptFault}
 use Rattle.board_script.specs.declared.stage.Stage.{Stage}
 use Rattle.board_script.specs.declared.stage.Stage.TheVariants.{Header, Work, Ended}
-use Rattle.board_script.specs.declared.lines.Said.{Said}
 use Rattle.board_script.specs.Words.{are_printable, word_of, rest_of}
-use Rattle.board_script.specs.Lines.{Reading, said_of, checked_of, said_by}
+use Rattle.board_script.specs.Lines.{said_of, checked_of, said_by}
 use Rattle.board_script.specs.Parsing.{Parsing, fed, fed_by, answer_by}
 use Rattle.xive_cli.specs.Inputs.{IsOpen}
 

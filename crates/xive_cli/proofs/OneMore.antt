@@ -1,5 +1,5 @@
 -- One more entry of a work line.
-use Rattle.std.proofs.Common.{ℕ, ◌≡◌, ◌+◌, ◌≤◌, ◌<◌, List, [], ◌∷◌, ◌++◌, Option, Some, None, true, refl, sym, ◌∙◌, ap, subst, arith}
+use Rattle.std.proofs.Common.{ℕ, ◌≡◌, ◌<◌, List, ◌∷◌, ◌++◌, Option, Some, true, refl, subst}
 use Rattle.xv_io.specs.Gathered.{Puts}
 use Rattle.xv_io.specs.Faults.{AppendsPrefix}
 use Rattle.xv_io.proofs.Puts.{puts_both, prefix_after_put}
@@ -16,7 +16,6 @@ use Rattle.board_script.specs.declared.work.Work.{Work}
 use Rattle.board_script.specs.Script.{WorkLine, line_for}
 use Rattle.board_script.specs.Working.{HasMade, next_op}
 use Rattle.xive_cli.specs.declared.machine.Machine.{Machine}
-use Rattle.xive_cli.specs.Standing.{StandsFor}
 use Rattle.xive_cli.specs.Running.{Makes, RunsPart, FailsAt, part_text}
 
 -- one more entry of a line was made, and its line was put
@@ -62,5 +61,5 @@ one_failed w m op w0 w1 k0 k1 k2 z h part r next actor_is valid_op fails = (
     },
   ),
   prefix_after_put w0 w1 k0 k1 k2 (part_text z h part) (entry_line (next_index z (part ++ h)) (record { actor = w.actor; op = op; outcome = fails.outcome })) r.puts
-  (subst (λ n. AppendsPrefix k1 k2 (w1 ++ entry_line n (record { actor = w.actor; op = op; outcome = fails.outcome }))) r.stands.index fails.written),
+      (subst (λ n. AppendsPrefix k1 k2 (w1 ++ entry_line n (record { actor = w.actor; op = op; outcome = fails.outcome }))) r.stands.index fails.written),
 )

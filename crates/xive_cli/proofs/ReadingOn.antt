@@ -1,5 +1,5 @@
 -- Reading on, where more was read ahead.
-use Rattle.std.proofs.Common.{ℕ, ◌≡◌, ◌+◌, ◌-◌, ◌≤◌, ◌<◌, Bool, true, false, List, [], ◌++◌, length, take, Option, Some, None, refl, sym, ◌∙◌, ap, subst, arith, inl, inr, append-nil}
+use Rattle.std.proofs.Common.{ℕ, ◌≡◌, ◌-◌, ◌≤◌, true, List, [], ◌++◌, length, take, Option, Some, None, refl, sym, ◌∙◌, ap, subst, arith, inl, inr, append-nil}
 use Rattle.std.specs.Io.KnownBytes.{Keeps, IsAtEnd, Appends}
 use Rattle.std.proofs.lemmas.List.{take_at}
 use Rattle.xv_model.specs.declared.board.Board.{Board}
@@ -7,7 +7,7 @@ use Rattle.xv_io.specs.Faults.{HasRisen, AppendsPrefix}
 use Rattle.xv_io.specs.Gathered.{Puts}
 use Rattle.xv_io.proofs.Puts.{puts_both, prefix_after_put}
 use Rattle.board_script.proofs.Reading.{IsNotEnd}
-use Rattle.xv_io.specs.Reading.{Reading, rest, lines_left, too_many_left, Meets}
+use Rattle.xv_io.specs.Reading.{rest, lines_left, too_many_left}
 use Rattle.xv_base.specs.Lines.{lines_within, are_too_many}
 use Rattle.board_script.specs.declared.lines.Line.{Line}
 use Rattle.board_script.specs.declared.lines.Line.TheVariants as line
@@ -15,7 +15,7 @@ use Rattle.board_script.specs.Parsing.{Parsing}
 use Rattle.board_script.specs.Stages.{board_at, whole_board, IsInHeader, IsLineAt}
 use Rattle.board_script.specs.declared.stage.Stage.{Stage}
 use Rattle.board_script.specs.declared.stage.Stage.TheVariants.{Header, Work, Ended}
-use Rattle.board_script.specs.Script.{Script, Accepted, Refused as Rejected, TooLong as Exceeds, WorkLine, script_from, work_with, so_far}
+use Rattle.board_script.specs.Script.{Accepted, Refused as Rejected, TooLong as Exceeds, WorkLine, script_from, work_with, so_far}
 use Rattle.xive_cli.specs.declared.input.Input.{Input}
 use Rattle.xive_cli.specs.declared.stop.Stop.{Stop}
 use Rattle.xive_cli.specs.declared.stop.Stop.TheVariants.{ReadFault, WriteFault, Refused, TooLong}

@@ -1,5 +1,5 @@
 -- The parts of a report.
-use Rattle.std.proofs.Common.{ℕ, ◌≡◌, ◌+◌, Bool, true, false, if◌then◌else◌, List, [], ◌++◌, length, Option, refl, sym, ◌∙◌, ap, subst, add-one}
+use Rattle.std.proofs.Common.{ℕ, ◌≡◌, ◌+◌, false, if◌then◌else◌, List, [], ◌++◌, Option, sym, ◌∙◌, ap, subst, add-one}
 use Rattle.std.specs.Prelude.{not}
 use Rattle.xv_io.specs.Gathered.{Puts}
 use Rattle.xv_io.proofs.Puts.{puts_both}

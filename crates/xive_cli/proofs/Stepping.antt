@@ -1,5 +1,5 @@
 -- A step of a machine that stands for an account.
-use Rattle.std.proofs.Common.{ℕ, ◌≡◌, ◌≢◌, ◌==◌, ◌+◌, ◌-◌, ◌<◌, Bool, true, false, if◌then◌else◌, List, [], ◌∷◌, length, Option, Some, None, refl, sym, ◌∙◌, ap, subst, arith, suc, slice_index_or, slice_set, slice_get, get_or, inl, inr, get_or-set_same, get_or-set_other, add-one}
+use Rattle.std.proofs.Common.{ℕ, ◌≡◌, ◌≢◌, ◌==◌, ◌+◌, ◌-◌, ◌<◌, Bool, true, false, if◌then◌else◌, List, [], ◌∷◌, length, Option, Some, None, refl, sym, ◌∙◌, ap, subst, arith, suc, slice_index_or, slice_set, slice_get, inl, inr, get_or-set_same, get_or-set_other, add-one}
 use Rattle.std.proofs.lemmas.Bool.{cases_eq, and_parts, ltb-true}
 use Rattle.std.specs.Prelude.{nat_lt, nat_le, ◌&&◌, not, take, zero}
 use Rattle.std.specs.List.{list_any}
@@ -22,10 +22,9 @@ use Rattle.xv_model.specs.Start.{Start, start}
 use Rattle.xv_model.specs.PqTable.{Cell, pq_row, flag_after}
 use Rattle.xv_model.specs.Pairs.{Touch, Change, pq, asserted, touch_at, touch_by, change_in}
 use Rattle.xv_model.specs.Notices.{forwards, routes, outstanding, sum_below, all_outstanding}
-use Rattle.xv_model.specs.Assignments.{initialised}
 use Rattle.xv_model.specs.Validity.{valid, valid_pq}
-use Rattle.xv_model.specs.Legal.{answer_by, most_forwards}
-use Rattle.xv_model.proofs.Sums.{sum_below-same, sum_below-more_at, sum_below-zero}
+use Rattle.xv_model.specs.Legal.{answer_by}
+use Rattle.xv_model.proofs.Sums.{sum_below-more_at}
 use Rattle.xive_cli.specs.declared.state.SourceState.{SourceState}
 use Rattle.xive_cli.specs.States.{state_by, state_after, outcome_of, forwarded_in}
 use Rattle.xive_cli.specs.Held.{Held}

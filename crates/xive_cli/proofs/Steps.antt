@@ -7,7 +7,6 @@ use Rattle.xv_model.specs.declared.board.Board.{Board}
 use Rattle.xv_model.specs.declared.entries.Entry.{Entry}
 use Rattle.xv_model.specs.Start.{Start, start}
 use Rattle.xv_model.specs.Text.{entries_text, entry_line, next_index}
-use Rattle.board_script.specs.declared.lines.Line.{Line}
 use Rattle.board_script.specs.declared.lines.Line.TheVariants as line
 use Rattle.board_script.specs.declared.stage.Stage.{Stage}
 use Rattle.board_script.specs.declared.stage.Stage.TheVariants.{Work as AtWork}
@@ -19,7 +18,7 @@ use Rattle.xive_cli.specs.declared.stop.Stop.{Stop}
 use Rattle.xive_cli.specs.declared.stop.Stop.TheVariants.{ReadFault, WriteFault, Refused, TooLong}
 use Rattle.xive_cli.specs.Standing.{StandsFor}
 use Rattle.xive_cli.specs.Inputs.{SaysKnown, StopsKnown, script_left, Leaves}
-use Rattle.xive_cli.specs.Running.{RunsPart, RunsLine, HasRun, HasRunTo, RunsSoFar, GoesOnAfter, IsScript, StopsAtWork, part_text, RanBy, RunsAs, IsSoFar, FaultsAtWork, FailsIn}
+use Rattle.xive_cli.specs.Running.{RunsLine, HasRunTo, RunsSoFar, GoesOnAfter, IsScript, StopsAtWork, part_text, RanBy, RunsAs, IsSoFar, FaultsAtWork, FailsIn}
 use Rattle.xive_cli.proofs.ReadingOn.{risen_from, prefix_of_put}
 use Rattle.xv_io.specs.Faults.{AppendsPrefix}
 use Rattle.xv_io.specs.Reading.{lines_left, too_many_left}

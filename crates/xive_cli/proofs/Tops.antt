@@ -2,7 +2,7 @@
 use Rattle.std.proofs.Common.{ℕ, ◌≡◌, ◌≤◌, ◌-◌, List, [], ◌∷◌, ◌++◌, Option, Some, None, refl, sym, ◌∙◌, ap, subst, append-nil, append_assoc, ◌⊎◌, inl, inr, IsSome}
 use Rattle.std.specs.Prelude.{codes, map}
 use Rattle.std.specs.Io.KnownBytes.{Appends}
-use Rattle.xv_io.specs.Faults.{HasRisen, AppendsPrefix}
+use Rattle.xv_io.specs.Faults.{AppendsPrefix}
 use Rattle.xv_io.proofs.Appending.{prefix_more}
 use Rattle.xv_io.specs.Reading.{lines_left, too_many_left}
 use Rattle.xv_model.specs.Legal.{IsLegal}
@@ -12,7 +12,6 @@ use Rattle.xv_model.proofs.OneAccount.{one_account}
 use Rattle.board_script.proofs.Reading.{board_from}
 use Rattle.board_script.specs.declared.stage.Stage.TheVariants.{Work as AtWork}
 use Rattle.xv_io.specs.Gathered.{Puts}
-use Rattle.xv_io.specs.Reading.{Reading}
 use Rattle.xv_io.proofs.Puts.{puts_both, puts_flushed, puts_all, prefix_after_put}
 use Rattle.xv_base.specs.Lines.{lines_within, are_too_many}
 use Rattle.xv_model.specs.declared.board.Board.{Board}
@@ -21,7 +20,7 @@ use Rattle.xv_model.specs.Start.{start}
 use Rattle.xv_model.specs.Text.{header_text, entries_text, report_text, account_text}
 use Rattle.board_script.specs.declared.faults.ScriptFault.{ScriptFault}
 use Rattle.board_script.specs.Parsing.{Parsing, new_parsing}
-use Rattle.board_script.specs.Script.{Script, Accepted, Refused as Rejected, TooLong as Exceeds, WorkLine, SoFar, line_for, script_from, script_of, board_in}
+use Rattle.board_script.specs.Script.{Script, Accepted, Refused as Rejected, TooLong as Exceeds, WorkLine, line_for, script_from, script_of, board_in}
 use Rattle.xive_cli.specs.declared.input.Input.{Input}
 use Rattle.xive_cli.specs.declared.machine.Machine.{Machine}
 use Rattle.xive_cli.specs.declared.stop.Stop.{Stop}
@@ -59,9 +58,9 @@ begins_with b b' g h more e beginning =
     let entries = entries_text (start b) g in (
       t.0 ++ more,
       ap (λ b. (header_text b ++ entries_text (start b) h) ++ more) e
-      ∙ ap (λ v. (header ++ v) ++ more) t.1
-      ∙ ap (λ v. v ++ more) (sym (append_assoc header entries t.0))
-      ∙ append_assoc (header ++ entries) t.0 more,
+          ∙ ap (λ v. (header ++ v) ++ more) t.1
+          ∙ ap (λ v. v ++ more) (sym (append_assoc header entries t.0))
+          ∙ append_assoc (header ++ entries) t.0 more,
     )
 
 output_begins : (script : Script) (b : Board) (g h : List Entry) → board_in script ≡ Some b → IsBeginning g h → (rest : List ℕ) × (output_of script h ≡ (header_text b ++ entries_text (start b) g) ++ rest)

@@ -1,5 +1,5 @@
 -- What is read of a script, line after line.
-use Rattle.std.specs.Prelude.{ℕ, ◌≡◌, ◌≤◌, Bool, true, false, ◌<◌, List, [], length, Option, Some, None, ⊤}
+use Rattle.std.specs.Prelude.{ℕ, ◌≡◌, ◌≤◌, false, ◌<◌, List, [], length, Option, Some, None, ⊤}
 use Rattle.xv_model.specs.declared.board.Board.{Board}
 use Rattle.xv_io.specs.Faults.{HasRisen, AppendsPrefix}
 use Rattle.xv_io.specs.Gathered.{Puts}

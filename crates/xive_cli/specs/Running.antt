@@ -1,5 +1,5 @@
 -- Runs of a script.
-use Rattle.std.specs.Prelude.{ℕ, ◌≡◌, ◌≤◌, List, [], ◌∷◌, ◌++◌, map, Option, Some, None, ⊤}
+use Rattle.std.specs.Prelude.{ℕ, ◌≡◌, List, [], ◌∷◌, ◌++◌, map, Option, Some, None, ⊤}
 use Rattle.xv_io.specs.Faults.{HasRisen, AppendsPrefix}
 use Rattle.xv_io.specs.Gathered.{Puts}
 use Rattle.xv_model.specs.declared.board.Board.{Board}
@@ -10,7 +10,6 @@ use Rattle.xv_model.specs.Start.{Start, start}
 use Rattle.xv_model.specs.Legal.{IsLegal, legal}
 use Rattle.xv_model.specs.Scripts.{Line, Begins, Follows, IsBeginning}
 use Rattle.xv_model.specs.Text.{entry_line, entries_text, next_index}
-use Rattle.board_script.specs.declared.stage.Stage.TheVariants.{Work as AtWork}
 use Rattle.board_script.specs.Script.{Script, Accepted, Refused as Rejected, TooLong as Exceeds, WorkLine, line_for}
 use Rattle.board_script.specs.Working.{next_op}
 use Rattle.xive_cli.specs.declared.input.Input.{Input}

@@ -1,6 +1,5 @@
 -- What a machine stands for.
-use Rattle.std.specs.Prelude.{ℕ, ◌≡◌, ◌<◌, Bool, true, false, List, Some, slice_get}
-use Rattle.xv_model.specs.declared.board.Board.{Board}
+use Rattle.std.specs.Prelude.{ℕ, ◌≡◌, ◌<◌, true, false, List, Some, slice_get}
 use Rattle.xv_model.specs.declared.entries.Entry.{Entry}
 use Rattle.xv_model.specs.Start.{Start}
 use Rattle.xv_model.specs.Pairs.{pq, asserted}

@@ -1,5 +1,5 @@
 -- What the machine keeps of a source.
-use Rattle.std.specs.Prelude.{ℕ, ◌<◌, ◌^◌, ◌+◌, ◌==◌, Bool, false, if◌then◌else◌}
+use Rattle.std.specs.Prelude.{ℕ, ◌<◌, ◌^◌, ◌+◌, ◌==◌, false, if◌then◌else◌}
 use Rattle.xive_cli.specs.declared.state.SourceState.{SourceState}
 use Rattle.xv_model.specs.declared.operations.PqOp.{PqOp}
 use Rattle.xv_model.specs.declared.outcomes.Outcome.{Outcome}

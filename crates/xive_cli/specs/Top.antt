@@ -1,5 +1,5 @@
 -- What a whole run writes.
-use Rattle.std.specs.Prelude.{ℕ, ◌≡◌, List, [], ◌∷◌, ◌++◌, map, codes, Option, Some, None, IsSome, ⊤}
+use Rattle.std.specs.Prelude.{ℕ, ◌≡◌, List, [], ◌++◌, map, codes, Option, Some, None, IsSome, ⊤}
 use Rattle.std.specs.Io.KnownBytes.{Appends}
 use Rattle.xv_base.specs.declared.status.Status.{Status}
 use Rattle.xv_base.specs.declared.status.Status.TheVariants as status

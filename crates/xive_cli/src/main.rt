@@ -13,10 +13,9 @@ mod state;
 mod stop;
 mod top;
 
-use std::env;
-use std::io;
 use std::process::ExitCode;
 use std::rt::Env;
+use std::{env, io};
 use top::run_top;
 use xv_base::{NoMemory, Status, Word};
 use xv_io::{StdSink, StdSource};

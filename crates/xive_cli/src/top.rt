@@ -114,7 +114,12 @@ fn give_up<K: Sink>(stop: Stop, output: &mut Output, sink: &mut K) -> Status
 /// written; `Refused` where a line isn't in the language, `TooLong` where 16 MiB of lines were given: what
 /// the lines before it give is written, and then a line that says so; `ReadFault` and `WriteFault` where
 /// the source or the sink failed; `NoMemory` at `go`; `Usage` where the words are no command.
-pub fn run_top<S: Source, K: Sink>(alloc: Global, words: &[Word], source: &mut S, sink: &mut K) -> Status
+pub fn run_top<S: Source, K: Sink>(
+    alloc: Global,
+    words: &[Word],
+    source: &mut S,
+    sink: &mut K,
+) -> Status
     ensures done { result ≡ Status.Done → WritesAccount (S.left source.old) (K.held sink.old) (K.held sink.new) }
     ensures refused { result ≡ Status.Refused → WritesRefusal (S.left source.old) (K.held sink.old) (K.held sink.new) }
     ensures too_long { result ≡ Status.TooLong → WritesTooLong (S.left source.old) (K.held sink.old) (K.held sink.new) }

@@ -1,4 +1,4 @@
-use Rattle.std.proofs.Common.{ℕ, ◌≡◌, ◌+◌, ◌≤◌, ◌<◌, IsTrue, List, [], ◌∷◌, length, get_or, codes, sym, ◌∙◌, ap, subst, arith, refl}
+use Rattle.std.proofs.Common.{ℕ, ◌≡◌, ◌≤◌, ◌<◌, List, [], ◌∷◌, length, get_or, sym, ◌∙◌, ap, arith}
 use Rattle.xive_cli.proofs.command.is_run.Goals as goal
 
 -- a list of one

@@ -1,5 +1,5 @@
-use Rattle.std.proofs.Common.{◌≡◌, Ok, Err, IfOk, IfErr, IfSome, subst, sym, ◌∙◌, ap}
-use Rattle.xive_cli.specs.Inputs.{Understands, CannotGoOn}
+use Rattle.std.proofs.Common.{IfSome, subst}
+use Rattle.xive_cli.specs.Inputs.{Understands}
 use Rattle.xive_cli.proofs.ReadingOn.{said_known, stops_known, leaves_put, flush_failed}
 use Rattle.xive_cli.proofs.input.read_line.Goals as goal
 

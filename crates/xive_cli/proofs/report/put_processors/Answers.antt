@@ -1,4 +1,4 @@
-use Rattle.std.proofs.Common.{◌<◌, ◌++◌, arith, subst, ap, ◌∙◌}
+use Rattle.std.proofs.Common.{◌<◌, ◌++◌, arith, subst}
 use Rattle.xv_io.specs.Faults.{AppendsPrefix}
 use Rattle.xv_io.specs.Gathered.{Puts}
 use Rattle.xv_model.specs.declared.board.Board.{Board}

@@ -1,4 +1,4 @@
-use Rattle.std.proofs.Common.{◌≡◌, ◌++◌, ap, subst}
+use Rattle.std.proofs.Common.{◌++◌, subst}
 use Rattle.xv_io.specs.Faults.{AppendsPrefix}
 use Rattle.xv_io.specs.Gathered.{Puts}
 use Rattle.xv_model.specs.declared.board.Board.{Board}

@@ -1,7 +1,6 @@
-use Rattle.std.proofs.Common.{◌≡◌, ◌≤◌, [], Ok, Err, IfOk, subst, sym, ◌∙◌, ap, refl, arith, rules}
-use Rattle.xv_io.specs.Gathered.{Puts}
+use Rattle.std.proofs.Common.{[], subst, refl, arith}
 use Rattle.board_script.specs.declared.lines.Line.TheVariants as line
-use Rattle.xive_cli.specs.Inputs.{SaysKnown, IsSaidAt, Rises}
+use Rattle.xive_cli.specs.Inputs.{SaysKnown, IsSaidAt}
 use Rattle.xive_cli.proofs.ReadingOn.{goes_by, left_after, header_at_nothing, header_at_header}
 use Rattle.xv_io.proofs.Puts.{puts_both}
 use Rattle.xive_cli.proofs.run.read_header.Goals as goal

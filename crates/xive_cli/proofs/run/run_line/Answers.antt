@@ -1,6 +1,5 @@
-use Rattle.std.proofs.Common.{◌≡◌, ◌<◌, ◌+◌, ◌≤◌, ◌∷◌, ◌++◌, List, Some, IfSome, true, sym, ◌∙◌, ap, subst, arith}
+use Rattle.std.proofs.Common.{◌≡◌, ◌<◌, ◌∷◌, ◌++◌, List, IfSome, true, sym, ◌∙◌, subst, arith}
 use Rattle.xv_model.specs.declared.board.Board.{Board}
-use Rattle.xv_model.specs.declared.operations.Op.{Op}
 use Rattle.xv_model.specs.declared.entries.Entry.{Entry}
 use Rattle.xv_model.specs.Validity.{valid}
 use Rattle.board_script.specs.declared.work.Work.{Work}

@@ -1,12 +1,9 @@
-use Rattle.std.proofs.Common.{◌≡◌, ◌<◌, ◌+◌, ◌≤◌, refl, sym, ◌∙◌, ap, subst, arith, rules}
+use Rattle.std.proofs.Common.{◌∙◌, subst, arith}
 use Rattle.board_script.specs.declared.lines.Line.TheVariants as line
 use Rattle.board_script.specs.declared.stage.Stage.{Stage}
-use Rattle.board_script.specs.declared.stage.Stage.TheVariants.{Work as AtWork}
 use Rattle.board_script.specs.Stages.{IsLineAt}
-use Rattle.board_script.specs.Lines.{IsWork}
-use Rattle.board_script.specs.Working.{steps_left}
 use Rattle.xive_cli.specs.Inputs.{SaysKnown, IsSaidAt, Rises}
-use Rattle.xive_cli.proofs.Steps.{nothing_ran, one_nothing, one_work, all_ran, stopped, at_most_given, line_failed}
+use Rattle.xive_cli.proofs.Steps.{one_nothing, one_work, all_ran, stopped, at_most_given, line_failed}
 use Rattle.xive_cli.proofs.ReadingOn.{risen_from}
 use Rattle.xive_cli.proofs.run.run_work.Goals as goal
 
@@ -77,6 +74,6 @@ returns-in-Err-run_line-clause-stop g c =
     let said = subst (λ said. SaysKnown c.loop-actor.input (g.S.Source.left c.loop-actor.source) said c.read_line.new.input (g.S.Source.left c.read_line.new.source)) c.in-Ok-Work.field-0-is e.line in (
       risen_from (g.K.Sink.faults c.args.sink.now) (g.K.Sink.faults c.read_line.new.sink) (g.K.Sink.faults c.run_line.new.sink) (omega (arith, e.sink_count)) ran.failed,
       line_failed c.args.machine.now.board c.args.input.now c.loop-actor.input c.read_line.new.input (g.S.Source.left c.args.source.now) (g.S.Source.left c.loop-actor.source) (g.S.Source.left c.read_line.new.source) c.loop-actor.machine
-      c.args.output.now.writer c.loop-actor.output.writer c.read_line.new.output.writer (g.K.Sink.held c.args.sink.now) (g.K.Sink.held c.loop-actor.sink) (g.K.Sink.held c.read_line.new.sink) (g.K.Sink.held c.run_line.new.sink)
-      (record { actor = c.in-Ok-Work.actor; work = c.in-Ok-Work.work }) c.requires.stage i.runs said e.puts ran.fails,
+          c.args.output.now.writer c.loop-actor.output.writer c.read_line.new.output.writer (g.K.Sink.held c.args.sink.now) (g.K.Sink.held c.loop-actor.sink) (g.K.Sink.held c.read_line.new.sink) (g.K.Sink.held c.run_line.new.sink)
+          (record { actor = c.in-Ok-Work.actor; work = c.in-Ok-Work.work }) c.requires.stage i.runs said e.puts ran.fails,
     )

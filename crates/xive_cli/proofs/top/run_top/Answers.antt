@@ -1,8 +1,6 @@
-use Rattle.std.proofs.Common.{◌≡◌, [], List, ℕ, Some, None, sym, ◌∙◌, subst, rules}
-use Rattle.std.specs.Prelude.{codes}
+use Rattle.std.proofs.Common.{[], List, ℕ, None, subst, rules}
 use Rattle.xv_io.specs.Gathered.{Puts}
 use Rattle.xv_model.specs.declared.board.Board.{Board}
-use Rattle.board_script.specs.Script.{Refused as Rejected, TooLong as Exceeds}
 use Rattle.xive_cli.specs.Inputs.{StopsKnown, Leaves}
 use Rattle.xive_cli.specs.Top.{StopsOnBoard, HasToldAll}
 use Rattle.xive_cli.proofs.Tops.{account_written, refused_at_work, too_long_at_work, refused_in_header, too_long_in_header, fault_in_header, fault_told, tells_fault, has_header, nothing_put, not_given_up}
@@ -66,7 +64,7 @@ returns-clause-refused g c = λ is.
     let i1 = c.read_header.new.input in
     let puts = subst (λ (w0 : List ℕ). Puts w0 k0 w k1 []) c.new-output.ensures e.puts in
     let told = subst (λ stop. StopsOnBoard stop c.in-Ok.board i1 left1 w k1 w' k2 (g.S.Source.faults c.read_header.new.source) (g.S.Source.faults c.run_board.new.source) (g.K.Sink.faults c.read_header.new.sink) (g.K.Sink.faults c.run_board.new.sink)) r.1
-        (subst (λ (b : Board). StopsOnBoard c.in-Err-run_board.stop b i1 left1 w k1 w' k2 (g.S.Source.faults c.read_header.new.source) (g.S.Source.faults c.run_board.new.source) (g.K.Sink.faults c.read_header.new.sink) (g.K.Sink.faults c.run_board.new.sink)) (c.in-Ok-build.ensures {u = tt}).board (c.in-Err-run_board.ensures {u = tt}).stop) in
+    (subst (λ (b : Board). StopsOnBoard c.in-Err-run_board.stop b i1 left1 w k1 w' k2 (g.S.Source.faults c.read_header.new.source) (g.S.Source.faults c.run_board.new.source) (g.K.Sink.faults c.read_header.new.sink) (g.K.Sink.faults c.run_board.new.sink)) (c.in-Ok-build.ensures {u = tt}).board (c.in-Err-run_board.ensures {u = tt}).stop) in
     refused_at_work c.in-Ok.board c.new-input.result i1 (g.S.Source.left c.args.source.now) left1 w w' k0 k1 k2 (g.K.Sink.held c.give_up-in-Err-run_board.new.sink) r.0 (record { parser = c.new-input.ensures.parser; ahead = c.new-input.ensures.ahead; given = c.new-input.ensures.given }) e.goes puts told r.2
 
 pub returns-clause-too_long : goal.returns-clause-too_long
@@ -82,7 +80,7 @@ returns-clause-too_long g c = λ is.
     let i1 = c.read_header.new.input in
     let puts = subst (λ (w0 : List ℕ). Puts w0 k0 w k1 []) c.new-output.ensures e.puts in
     let told = subst (λ stop. StopsOnBoard stop c.in-Ok.board i1 left1 w k1 w' k2 (g.S.Source.faults c.read_header.new.source) (g.S.Source.faults c.run_board.new.source) (g.K.Sink.faults c.read_header.new.sink) (g.K.Sink.faults c.run_board.new.sink)) r.0
-        (subst (λ (b : Board). StopsOnBoard c.in-Err-run_board.stop b i1 left1 w k1 w' k2 (g.S.Source.faults c.read_header.new.source) (g.S.Source.faults c.run_board.new.source) (g.K.Sink.faults c.read_header.new.sink) (g.K.Sink.faults c.run_board.new.sink)) (c.in-Ok-build.ensures {u = tt}).board (c.in-Err-run_board.ensures {u = tt}).stop) in
+    (subst (λ (b : Board). StopsOnBoard c.in-Err-run_board.stop b i1 left1 w k1 w' k2 (g.S.Source.faults c.read_header.new.source) (g.S.Source.faults c.run_board.new.source) (g.K.Sink.faults c.read_header.new.sink) (g.K.Sink.faults c.run_board.new.sink)) (c.in-Ok-build.ensures {u = tt}).board (c.in-Err-run_board.ensures {u = tt}).stop) in
     too_long_at_work c.in-Ok.board c.new-input.result i1 (g.S.Source.left c.args.source.now) left1 w w' k0 k1 k2 (g.K.Sink.held c.give_up-in-Err-run_board.new.sink) (record { parser = c.new-input.ensures.parser; ahead = c.new-input.ensures.ahead; given = c.new-input.ensures.given }) e.goes puts told r.1
 
 pub returns-in-Err-clause-prefix : goal.returns-in-Err-clause-prefix

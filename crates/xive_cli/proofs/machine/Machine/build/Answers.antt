@@ -1,5 +1,4 @@
-use Rattle.std.proofs.Common.{◌≡◌, refl, sym, rules, arith}
-use Rattle.std.proofs.lemmas.Grind.{common_steps}
+use Rattle.std.proofs.Common.{rules}
 use Rattle.xive_cli.proofs.Stepping.{starts}
 use Rattle.xive_cli.proofs.machine.Machine.build.Goals as goal
 

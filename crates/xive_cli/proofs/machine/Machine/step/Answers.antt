@@ -1,8 +1,5 @@
-use Rattle.std.proofs.Common.{◌≡◌, ◌<◌, ◌+◌, ◌∷◌, List, subst, sym, ap, refl, arith, rules, true, slice_set}
-use Rattle.xv_model.specs.declared.entries.Entry.{Entry as AnEntry}
+use Rattle.std.proofs.Common.{◌≡◌, ◌+◌, ◌∷◌, subst, sym, ap, refl, rules, true, slice_set}
 use Rattle.xv_model.specs.declared.operations.Op.{Op}
-use Rattle.xv_model.specs.declared.operations.Op.TheVariants as op
-use Rattle.xv_model.specs.Start.{Start}
 use Rattle.xv_model.specs.Validity.{valid}
 use Rattle.xive_cli.specs.Held.{Held}
 use Rattle.xive_cli.specs.Standing.{StandsFor}
