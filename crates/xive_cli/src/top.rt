@@ -25,6 +25,9 @@ use std::alloc::Global;
 use xv_base::{Status, Word};
 use xv_io::{Failed, Sink, Source};
 
+#[cfg(test)]
+mod tests;
+
 /// Runs the work lines of a script on a machine on which nothing has happened, and writes the account.
 fn run_board<S: Source, K: Sink>(
     input: &mut Input,
