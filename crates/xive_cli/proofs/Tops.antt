@@ -9,6 +9,7 @@ use Rattle.xv_model.specs.Legal.{IsLegal}
 use Rattle.xv_model.specs.Scripts.{Follows, IsBeginning}
 use Rattle.xv_model.proofs.Beginnings.{none, beginning_text}
 use Rattle.xv_model.proofs.OneAccount.{one_account}
+use Rattle.xv_model.proofs.TriggerLaws.{numbered_in_order, each_accounted, comes_again}
 use Rattle.board_script.proofs.Reading.{board_from}
 use Rattle.board_script.specs.declared.stage.Stage.TheVariants.{Work as AtWork}
 use Rattle.xv_io.specs.Gathered.{Puts}
@@ -169,6 +170,9 @@ account_written b i i1 left left1 w k k1 k2 n g p t = record {
   is_script = script_after i i1 left left1 (Accepted b t.work) n g t.is_script;
   follows = t.follows;
   legal = t.legal;
+  numbered = numbered_in_order b t.account t.legal;
+  accounted = each_accounted b t.account t.legal;
+  come_again = comes_again b t.account t.legal;
   written = puts_all k k2 (account_text b t.account) (after_nothing w [] k k1 k2 (account_text b t.account) p t.puts);
 }
 

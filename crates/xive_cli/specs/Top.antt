@@ -10,6 +10,7 @@ use Rattle.xv_model.specs.declared.entries.Entry.{Entry}
 use Rattle.xv_model.specs.Start.{start}
 use Rattle.xv_model.specs.Legal.{IsLegal}
 use Rattle.xv_model.specs.Scripts.{Follows}
+use Rattle.xv_model.specs.Triggers.{AreNumbered, AreAccounted, ComeAgain}
 use Rattle.xv_model.specs.Text.{header_text, entries_text, account_text}
 use Rattle.board_script.specs.declared.faults.ScriptFault.{ScriptFault}
 use Rattle.board_script.specs.Script.{Script, Accepted, Refused as Rejected, TooLong as Exceeds, SoFar, WorkLine, line_for, script_of, board_in}
@@ -53,7 +54,7 @@ abbrev pub HasHeader : Option (List ℕ) → Type 0
 HasHeader None = ⊤
 HasHeader (Some bytes) = IsSome (board_in (script_of bytes))
 
--- the known bytes are a script of a board and work lines, and what was appended is the text of that board and of an account that follows the lines and is legal from the board's start record
+-- the known bytes are a script of a board and work lines, and what was appended is the text of that board and of an account that follows the lines and is legal from the board's start record; the forwards, triggers and coalesced triggers of this account are as the laws say
 pub record WritesAccount (bytes held held' : Option (List ℕ)) : Type 0 where
   pub board : Board
   pub work : List WorkLine
@@ -61,6 +62,9 @@ pub record WritesAccount (bytes held held' : Option (List ℕ)) : Type 0 where
   pub is_script : AreScript bytes (Accepted board work)
   pub follows : Follows (map line_for work) account
   pub legal : IsLegal (start board) account
+  pub numbered : AreNumbered board account
+  pub accounted : AreAccounted board account
+  pub come_again : ComeAgain board account
   pub written : Appends held held' (account_text board account)
 
 -- a line of the known bytes is refused, and what was appended is what the lines before it give, and the refusal

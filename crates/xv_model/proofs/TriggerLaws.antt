@@ -48,7 +48,7 @@ numbered z (x ∷ h) s l =
 
 -- the forwards of a source have the numbers 1, 2, 3 and so on, in order
 pub numbered_in_order : NumberedInOrder
-numbered_in_order b h s l = sym (append-nil _) ∙ numbered (start b) h s l
+numbered_in_order b h l s = sym (append-nil _) ∙ numbered (start b) h s l
 
 -- an operation that leaves a queued event leaves the pair 11
 keeps_three : (o : PqOp) (level on : Bool) → ends_queue o ≡ false → (pq_row o level on 3).pair ≡ 3
@@ -122,9 +122,12 @@ eoi_by n true false = grind (arith, nat_tests)
 eoi_by n false true = grind (arith, nat_tests)
 eoi_by n false false = grind (arith, nat_tests)
 
--- after a coalesced trigger of a message source its next EOI forwards or is spent
-pub comes_again : CoalescedComesAgain
-comes_again b h later t e s l message trigger coalesced leaves eoi =
+-- after a coalesced trigger of a message source its next EOI, as the last entry, forwards or is spent
+last_again : (b : Board) (h later : List Entry) (t e : Entry) (s : ℕ) → IsLegal (start b) (e ∷ (later ++ t ∷ h)) → is_level b s ≡ false →
+    is_access s is_trigger (access_of b t.op) ≡ true → is_coalesced t.outcome ≡ true →
+    list_all (leaves_queue b s) later ≡ true → is_access s is_eoi (access_of b e.op) ≡ true →
+    (is_forwarded e.outcome ≡ true) ⊎ (is_spent e.outcome ≡ true)
+last_again b h later t e s l message trigger coalesced leaves eoi =
     let z = start b in
     let at_t = legal_before z later (t ∷ h) l.0 in
     let a = trigger_access s (access_of b t.op) trigger in
@@ -133,6 +136,10 @@ comes_again b h later t e s l message trigger coalesced leaves eoi =
     let out_is = word_outcome z (later ++ t ∷ h) s e Eoi l.1 (eoi_access s (access_of b e.op) eoi) in
     let out_three : e.outcome ≡ answer_by (pq_row Eoi (is_level b s) (asserted z (later ++ t ∷ h) s) 3) 3 (forwards z (later ++ t ∷ h) s) = subst (λ q. e.outcome ≡ answer_by (pq_row Eoi (is_level b s) (asserted z (later ++ t ∷ h) s) q) q (forwards z (later ++ t ∷ h) s)) still out_is in
     subst (λ o. (is_forwarded o ≡ true) ⊎ (is_spent o ≡ true)) (sym out_three) (eoi_by (forwards z (later ++ t ∷ h) s) (asserted z (later ++ t ∷ h) s) (is_level b s))
+
+-- after a coalesced trigger of a message source its next EOI forwards or is spent
+pub comes_again : CoalescedComesAgain
+comes_again b h l before between after t e s is = last_again b before between t e s (legal_before (start b) after (e ∷ (between ++ t ∷ before)) (subst (IsLegal (start b)) is l))
 
 -- the answer to a trigger is of one of the four kinds
 four_kinds : (n q : ℕ) (level on : Bool) → q < 4 →
@@ -167,4 +174,4 @@ accounted z (x ∷ h) s l w =
 
 -- each trigger of a source is forwarded, coalesced, ignored or spent
 pub each_accounted : EachTriggerAccounted
-each_accounted b h s l = accounted (start b) h s l (lit< tt)
+each_accounted b h l s = accounted (start b) h s l (lit< tt)

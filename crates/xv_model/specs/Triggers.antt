@@ -76,21 +76,31 @@ triggers b s kind h = count_by (λ x. is_access s is_trigger (access_of b x.op) 
 abbrev pub leaves_queue : Board → ℕ → Entry → Bool
 leaves_queue b s x = not (is_access s ends_queue (access_of b x.op))
 
--- The laws, of every legal account of a board.
+-- The laws, of an account of a board.
 
--- the forwards of a source have the numbers 1, 2, 3 and so on, in order
-abbrev pub NumberedInOrder : Type 0
-NumberedInOrder = (b : Board) (h : List Entry) (s : ℕ) → IsLegal (start b) h → forward_numbers b h s ≡ down_from (forwards (start b) h s)
+-- the forwards of each source have the numbers 1, 2, 3 and so on, in order
+abbrev pub AreNumbered : Board → List Entry → Type 0
+AreNumbered b h = (s : ℕ) → forward_numbers b h s ≡ down_from (forwards (start b) h s)
 
 -- each trigger of a source is forwarded, coalesced, ignored or spent, and only one of these
-abbrev pub EachTriggerAccounted : Type 0
-EachTriggerAccounted = (b : Board) (h : List Entry) (s : ℕ) → IsLegal (start b) h →
-    triggers b s (λ o. true) h ≡ triggers b s is_forwarded h + triggers b s is_coalesced h + triggers b s is_ignored h + triggers b s is_spent h
+abbrev pub AreAccounted : Board → List Entry → Type 0
+AreAccounted b h = (s : ℕ) → triggers b s (λ o. true) h ≡ triggers b s is_forwarded h + triggers b s is_coalesced h + triggers b s is_ignored h + triggers b s is_spent h
 
 -- after a coalesced trigger t of a message source the next EOI e of it, with no set or init between, forwards or is spent
-abbrev pub CoalescedComesAgain : Type 0
-CoalescedComesAgain = (b : Board) (h later : List Entry) (t e : Entry) (s : ℕ) →
-    IsLegal (start b) (e ∷ (later ++ t ∷ h)) → is_level b s ≡ false →
+abbrev pub ComeAgain : Board → List Entry → Type 0
+ComeAgain b h = (before between after : List Entry) (t e : Entry) (s : ℕ) →
+    h ≡ after ++ e ∷ (between ++ t ∷ before) → is_level b s ≡ false →
     is_access s is_trigger (access_of b t.op) ≡ true → is_coalesced t.outcome ≡ true →
-    list_all (leaves_queue b s) later ≡ true → is_access s is_eoi (access_of b e.op) ≡ true →
+    list_all (leaves_queue b s) between ≡ true → is_access s is_eoi (access_of b e.op) ≡ true →
     (is_forwarded e.outcome ≡ true) ⊎ (is_spent e.outcome ≡ true)
+
+-- The laws hold of every legal account of a board.
+
+abbrev pub NumberedInOrder : Type 0
+NumberedInOrder = (b : Board) (h : List Entry) → IsLegal (start b) h → AreNumbered b h
+
+abbrev pub EachTriggerAccounted : Type 0
+EachTriggerAccounted = (b : Board) (h : List Entry) → IsLegal (start b) h → AreAccounted b h
+
+abbrev pub CoalescedComesAgain : Type 0
+CoalescedComesAgain = (b : Board) (h : List Entry) → IsLegal (start b) h → ComeAgain b h
