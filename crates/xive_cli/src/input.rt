@@ -1,6 +1,6 @@
 //! The lines of a source, and what they say.
 
-ghost use Rattle.std.specs.Prelude.{◌≡◌, ◌<◌, ◌≤◌, [], length, false, true, IfOk, IfErr, IfSome, IfNone, OnOk, OnErr};
+ghost use Rattle.std.specs.Prelude.{◌≡◌, ◌<◌, ◌≤◌, [], length, false, true, IfOk, IfErr, OnOk, OnErr};
 ghost use Rattle.std.specs.Io.KnownBytes.{IsAtEnd};
 ghost use Rattle.xv_io.specs.Faults.{HasRisen};
 ghost use Rattle.xv_io.specs.Gathered.{Puts};
@@ -39,20 +39,24 @@ impl Input {
     }
 }
 
-/// What the next line says, as far as it is read ahead; none where more has to be read before that is known.
-fn next_line(input: &mut Input) -> Result<Option<Line>, Stop>
+/// Whether it is known, by what is read ahead, what the next line says: `said` says so then. Else more has to
+/// be read first. It is written in place, as a board is large.
+fn next_line(input: &mut Input, said: &mut Line) -> Result<bool, Stop>
     requires { IsOpen input.old.parser.stage }
-    ensures line { IfOk result (λ o. IfSome o (λ said. Understands input.old said input.new)) }
-    ensures fits { IfOk result (λ o. IfSome o (λ said. IsSaidAt input.old said input.new)) }
-    ensures rises { IfOk result (λ o. IfSome o (λ said. Rises input.old said input.new)) }
-    ensures more { IfOk result (λ o. IfNone o (NeedsMore input.old input.new)) }
+    ensures line { IfOk result (λ known. known ≡ true → Understands input.old said.new input.new) }
+    ensures fits { IfOk result (λ known. known ≡ true → IsSaidAt input.old said.new input.new) }
+    ensures rises { IfOk result (λ known. known ≡ true → Rises input.old said.new input.new) }
+    ensures more { IfOk result (λ known. known ≡ false → NeedsMore input.old input.new) }
     ensures stop { IfErr result (λ stop. CannotGoOn stop input.old) }
     ensures ended { input.new.reader.ended ≡ input.old.reader.ended }
     ensures bounded { input.new.reader.given ≤ 16777216 }
 {
     match input.reader.next() {
         Next::Line => match input.parser.feed(input.reader.line()) {
-            Ok(said) => Ok(Some(said)),
+            Ok(line) => {
+                *said = line;
+                Ok(true)
+            }
             Err(fault) => Err(Stop::Refused(fault)),
         },
         Next::Long => match input.parser.feed(&LONG_LINE) {
@@ -61,25 +65,30 @@ fn next_line(input: &mut Input) -> Result<Option<Line>, Stop>
         },
         Next::TooMany => Err(Stop::TooLong),
         Next::End => match input.parser.finish() {
-            Ok(()) => Ok(Some(Line::End)),
+            Ok(()) => {
+                *said = Line::End;
+                Ok(true)
+            }
             Err(fault) => Err(Stop::Refused(fault)),
         },
-        Next::More => Ok(None),
+        Next::More => Ok(false),
     }
 }
 
-/// Reads what the next line says. All that is gathered is written before the source is asked for more.
+/// Reads what the next line says into `said`. All that is gathered is written before the source is asked for
+/// more.
 pub fn read_line<S: Source, K: Sink>(
     input: &mut Input,
     source: &mut S,
     output: &mut Output,
     sink: &mut K,
-) -> Result<Line, Stop>
+    said: &mut Line,
+) -> Result<(), Stop>
     requires open { IsOpen input.old.parser.stage }
     requires ended { input.old.reader.ended ≡ true → IsAtEnd (S.left source.old) }
-    ensures line { IfOk result (λ said. SaysKnown input.old (S.left source.old) said input.new (S.left source.new)) }
-    ensures fits { IfOk result (λ said. IsSaidAt input.old said input.new) }
-    ensures rises { IfOk result (λ said. Rises input.old said input.new) }
+    ensures line { OnOk result (SaysKnown input.old (S.left source.old) said.new input.new (S.left source.new)) }
+    ensures fits { OnOk result (IsSaidAt input.old said.new input.new) }
+    ensures rises { OnOk result (Rises input.old said.new input.new) }
     ensures stop { IfErr result (λ stop. StopsKnown stop (whole_board input.old.parser.stage) input.old (S.left source.old) (S.faults source.old) (S.faults source.new) (K.faults sink.old) (K.faults sink.new)) }
     ensures ended { input.new.reader.ended ≡ true → IsAtEnd (S.left source.new) }
     ensures bounded { input.new.reader.given ≤ 16777216 }
@@ -89,9 +98,9 @@ pub fn read_line<S: Source, K: Sink>(
     ensures sink_count { K.faults sink.old ≤ K.faults sink.new }
 {
     loop {
-        match next_line(input) {
-            Ok(Some(said)) => return Ok(said),
-            Ok(None) => {}
+        match next_line(input, said) {
+            Ok(true) => return Ok(()),
+            Ok(false) => {}
             Err(stop) => return Err(stop),
         }
         match output.writer.flush(sink) {

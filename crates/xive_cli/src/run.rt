@@ -50,13 +50,17 @@ pub fn read_header<S: Source, K: Sink>(
     ensures source_count { S.faults source.old ≤ S.faults source.new }
     ensures sink_count { K.faults sink.old ≤ K.faults sink.new }
 {
+    let mut said = Line::Nothing;
     loop {
-        match read_line(input, source, output, sink) {
-            Ok(Line::Go { board }) => return Ok(board),
-            Ok(Line::Nothing) => {}
-            Ok(Line::Header) => {}
-            Ok(_) => unreachable!(),
+        match read_line(input, source, output, sink, &mut said) {
+            Ok(()) => {}
             Err(stop) => return Err(stop),
+        }
+        match said {
+            Line::Go { board } => return Ok(board),
+            Line::Nothing => {}
+            Line::Header => {}
+            _ => unreachable!(),
         }
     }
 }
@@ -133,18 +137,20 @@ pub fn run_work<S: Source, K: Sink>(
     ensures source_count { S.faults source.old ≤ S.faults source.new }
     ensures sink_count { K.faults sink.old ≤ K.faults sink.new }
 {
+    let mut said = Line::Nothing;
     loop {
-        match read_line(input, source, output, sink) {
-            Ok(Line::Work { actor, work }) => {
-                match run_line(machine, output, sink, actor, work) {
-                    Ok(()) => {}
-                    Err(_) => return Err(Stop::WriteFault),
-                }
-            }
-            Ok(Line::Nothing) => {}
-            Ok(Line::End) => return Ok(()),
-            Ok(_) => unreachable!(),
+        match read_line(input, source, output, sink, &mut said) {
+            Ok(()) => {}
             Err(stop) => return Err(stop),
+        }
+        match said {
+            Line::Work { actor, work } => match run_line(machine, output, sink, actor, work) {
+                Ok(()) => {}
+                Err(_) => return Err(Stop::WriteFault),
+            },
+            Line::Nothing => {}
+            Line::End => return Ok(()),
+            _ => unreachable!(),
         }
     }
 }

@@ -4,8 +4,8 @@ use Rattle.xv_io.specs.Gathered.{Puts}
 use Rattle.xv_io.specs.Reading.{rest}
 use Rattle.xive_cli.proofs.input.read_line.Given as goal
 
-abbrev pub invariant-loop-said : goal.invariant-loop-said
-invariant-loop-said g l = record {
+abbrev pub invariant-loop-stop : goal.invariant-loop-stop
+invariant-loop-stop g l = record {
   keeps : Keeps (rest l.fn.input.reader (g.S.Source.left l.fn.source)) (rest l.input.reader (g.S.Source.left l.source));
   parser : l.input.parser ≡ l.fn.input.parser;
   given : l.input.reader.given ≡ l.fn.input.reader.given;
@@ -15,5 +15,5 @@ invariant-loop-said g l = record {
   sink_count : g.K.Sink.faults l.fn.sink ≤ g.K.Sink.faults l.sink;
 }
 
-abbrev pub decreases-loop-said : goal.decreases-loop-said
-decreases-loop-said g l = if l.input.reader.ended then 0 else 1 + (257 - length l.input.reader.ahead)
+abbrev pub decreases-loop-stop : goal.decreases-loop-stop
+decreases-loop-stop g l = if l.input.reader.ended then 0 else 1 + (257 - length l.input.reader.ahead)

@@ -5,8 +5,8 @@ use Rattle.board_script.specs.Stages.{IsInHeader}
 use Rattle.xive_cli.specs.Inputs.{GoesOn}
 use Rattle.xive_cli.proofs.run.read_header.Given as goal
 
-abbrev pub invariant-loop-board : goal.invariant-loop-board
-invariant-loop-board g l = record {
+abbrev pub invariant-loop-stop : goal.invariant-loop-stop
+invariant-loop-stop g l = record {
   goes : GoesOn l.fn.input (g.S.Source.left l.fn.source) l.input (g.S.Source.left l.source);
   header : IsInHeader l.input.parser.stage;
   given : l.input.reader.given ≤ 16777216;
@@ -16,5 +16,5 @@ invariant-loop-board g l = record {
   sink_count : g.K.Sink.faults l.fn.sink ≤ g.K.Sink.faults l.sink;
 }
 
-abbrev pub decreases-loop-board : goal.decreases-loop-board
-decreases-loop-board g l = 16777216 - l.input.reader.given
+abbrev pub decreases-loop-stop : goal.decreases-loop-stop
+decreases-loop-stop g l = 16777216 - l.input.reader.given

@@ -4,8 +4,8 @@ use Rattle.board_script.specs.declared.stage.Stage.TheVariants.{Work as AtWork}
 use Rattle.xive_cli.specs.Running.{RunsSoFar}
 use Rattle.xive_cli.proofs.run.run_work.Given as goal
 
-abbrev pub invariant-loop-actor : goal.invariant-loop-actor
-invariant-loop-actor g l = record {
+abbrev pub invariant-loop-stop : goal.invariant-loop-stop
+invariant-loop-stop g l = record {
   runs : RunsSoFar l.fn.machine.board l.fn.input (g.S.Source.left l.fn.source) l.input (g.S.Source.left l.source) l.machine l.fn.output.writer (g.K.Sink.held l.fn.sink) l.output.writer (g.K.Sink.held l.sink);
   stage : l.input.parser.stage ≡ AtWork l.fn.machine.board;
   board : l.machine.board ≡ l.fn.machine.board;
@@ -16,5 +16,5 @@ invariant-loop-actor g l = record {
   sink_count : g.K.Sink.faults l.fn.sink ≤ g.K.Sink.faults l.sink;
 }
 
-abbrev pub decreases-loop-actor : goal.decreases-loop-actor
-decreases-loop-actor g l = 16777216 - l.input.reader.given
+abbrev pub decreases-loop-stop : goal.decreases-loop-stop
+decreases-loop-stop g l = 16777216 - l.input.reader.given
