@@ -39,8 +39,8 @@ impl Input {
     }
 }
 
-/// Whether it is known, by what is read ahead, what the next line says: `said` says so then. Else more has to
-/// be read first. It is written in place, as a board is large.
+/// Finds in what is read ahead what the next line says. False where more has to be read first, and then `said`
+/// means nothing. It is written in place, since a line may hold a whole board.
 fn next_line(input: &mut Input, said: &mut Line) -> Result<bool, Stop>
     requires { IsOpen input.old.parser.stage }
     ensures line { IfOk result (λ known. known ≡ true → Understands input.old said.new input.new) }
