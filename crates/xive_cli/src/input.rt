@@ -53,6 +53,11 @@ fn next_line(input: &mut Input, said: &mut Line) -> Result<bool, Stop>
 {
     match input.reader.next() {
         Next::Line => match input.parser.feed(input.reader.line()) {
+            // A copy of the whole line would have the size of a board.
+            Ok(Line::Work { actor, work }) => {
+                *said = Line::Work { actor, work };
+                Ok(true)
+            }
             Ok(line) => {
                 *said = line;
                 Ok(true)
