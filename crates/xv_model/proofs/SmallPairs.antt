@@ -1,5 +1,5 @@
 -- The pairs of a legal account are pairs.
-use Rattle.std.proofs.Common.{ℕ, ◌≡◌, ◌==◌, ◌<◌, ◌&&◌, nat_lt, ◌%◌, Bool, true, false, if◌then◌else◌, List, [], ◌∷◌, Option, Some, None, refl, sym, subst, arith, lit<}
+use Rattle.std.proofs.Common.{ℕ, ◌≡◌, ◌==◌, ◌<◌, ◌&&◌, nat_lt, ◌%◌, Bool, true, false, if◌then◌else◌, List, [], ◌∷◌, Option, Some, None, refl, sym, subst, arith, lit<, length}
 use Rattle.std.proofs.lemmas.Bool.{and_parts}
 use Rattle.std.proofs.lemmas.Bool.Decides.{nat_tests}
 use Rattle.std.specs.Option.{option_map_or}
@@ -15,10 +15,12 @@ use Rattle.xv_model.specs.Start.{Start}
 use Rattle.xv_model.specs.Kinds.{WordAccess, access_of, page_op, load_op, store_op}
 use Rattle.xv_model.specs.PqTable.{Cell, pq_row}
 use Rattle.xv_model.specs.Pairs.{Touch, touch_of, touch_at, pq, asserted}
-use Rattle.xv_model.specs.Notices.{forwards}
+use Rattle.xv_model.specs.Notices.{forwards, outstanding}
+use Rattle.xv_model.specs.Flight.{flight}
+use Rattle.xv_model.specs.Routing.{most_messages}
 use Rattle.xv_model.specs.Validity.{valid, valid_pq}
 use Rattle.xv_model.specs.Legal.{IsLegal, IsNext, is_level, most_forwards, answer_by, cell_after, word_answer, fabric_answer}
-use Rattle.xv_model.specs.Text.{HasPairs}
+use Rattle.xv_model.specs.Text.{HasText}
 use Rattle.xv_model.proofs.Touches.{legal_touch, touch_is}
 
 -- a set is to a pair
@@ -97,24 +99,31 @@ pq-below z (x ∷ h) s l w =
     let sets : SetsPair t.op = sets_access z.board x.op _ l.1.valid_op a in
     subst (λ n. n < 4) (sym f.new) (small_cell t.op (is_level z.board s) (asserted z h s) (pq z h s) before sets)) before
 
--- of two outcomes with pairs each choice has pairs
-has_pairs_if : (b : Bool) (m n : Outcome) → HasPairs m → HasPairs n → HasPairs (if b then m else n)
-has_pairs_if true m n v w = v
-has_pairs_if false m n v w = w
+-- of two outcomes that have texts each choice has one
+has_text_if : (b : Bool) (m n : Outcome) → HasText m → HasText n → HasText (if b then m else n)
+has_text_if true m n v w = v
+has_text_if false m n v w = w
 
--- an answer by a cell of a pair has pairs
-answer_has_pairs : (c : Cell) (q n : ℕ) → q < 4 → c.pair < 4 → HasPairs (answer_by c q n)
-answer_has_pairs c q n l m = has_pairs_if c.forwards _ _ (has_pairs_if (n == most_forwards) _ _ tt (l, m)) (l, m)
+-- an answer by a cell of a pair has a text
+answer_has_text : (c : Cell) (q n : ℕ) → q < 4 → c.pair < 4 → HasText (answer_by c q n)
+answer_has_text c q n l m = has_text_if c.forwards _ _ (has_text_if (n == most_forwards) _ _ tt (l, m)) (l, m)
 
--- the legal outcome of an operation has pairs, by whether it is an access
-legal_has_pairs_by : (z : Start) (h : List Entry) (o : Op) (m : Option WordAccess) → ((a : WordAccess) → m ≡ Some a → SetsPair a.op) → ((s : ℕ) → pq z h s < 4) → HasPairs (option_map_or (word_answer z h) m (fabric_answer z h o))
-legal_has_pairs_by z h o None sets small = tt
-legal_has_pairs_by z h o (Some a) sets small =
-    answer_has_pairs (cell_after z h a) (pq z h a.source) (forwards z h a.source) (small a.source)
+-- an answer of the fabric has a text
+fabric_has_text : (z : Start) (h : List Entry) (o : Op) → HasText (fabric_answer z h o)
+fabric_has_text z h (op.Route s) = has_text_if (outstanding z h s == 0) _ _ tt (has_text_if (length (flight z h) == most_messages) _ _ tt tt)
+fabric_has_text z h (op.EndSet e c) = tt
+fabric_has_text z h (op.Hcall number args) = refl
+fabric_has_text z h _ = tt
+
+-- the legal outcome of an operation has a text, by whether it is an access
+legal_has_text_by : (z : Start) (h : List Entry) (o : Op) (m : Option WordAccess) → ((a : WordAccess) → m ≡ Some a → SetsPair a.op) → ((s : ℕ) → pq z h s < 4) → HasText (option_map_or (word_answer z h) m (fabric_answer z h o))
+legal_has_text_by z h o None sets small = fabric_has_text z h o
+legal_has_text_by z h o (Some a) sets small =
+    answer_has_text (cell_after z h a) (pq z h a.source) (forwards z h a.source) (small a.source)
     (small_cell a.op (is_level z.board a.source) (asserted z h a.source) (pq z h a.source) (small a.source) (sets a refl))
 
--- the next entry of a legal account has pairs in its outcome
-pub legal_has_pairs : (z : Start) (h : List Entry) (x : Entry) → IsLegal z h → ((s : ℕ) → z.pair s < 4) → IsNext z h x → HasPairs x.outcome
-legal_has_pairs z h x l w n =
-    subst HasPairs (sym n.outcome)
-    (legal_has_pairs_by z h x.op (access_of z.board x.op) (λ a e. sets_access z.board x.op a n.valid_op e) (λ s. pq-below z h s l (w s)))
+-- the outcome of the next entry of a legal account has a text
+pub legal_has_text : (z : Start) (h : List Entry) (x : Entry) → IsLegal z h → ((s : ℕ) → z.pair s < 4) → IsNext z h x → HasText x.outcome
+legal_has_text z h x l w n =
+    subst HasText (sym n.outcome)
+    (legal_has_text_by z h x.op (access_of z.board x.op) (λ a e. sets_access z.board x.op a n.valid_op e) (λ s. pq-below z h s l (w s)))

@@ -30,8 +30,7 @@ pub record IsBoard (b : Board) : Type 0 where
   pub unclaimed : AreBelow b.unclaimed b.limits.sources
   pub unconnected : AreBelow b.unconnected b.limits.processors
 
--- a board without ranges: each source is a message source and claimed, and each processor is connected
+-- a board whose sources are all message sources, and whose processors are all connected
 pub record IsPlain (b : Board) : Type 0 where
   pub level : b.level.count ≡ 0
-  pub unclaimed : b.unclaimed.count ≡ 0
   pub unconnected : b.unconnected.count ≡ 0

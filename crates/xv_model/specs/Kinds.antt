@@ -57,8 +57,8 @@ is_quiet _ = false
 abbrev pub is_fabric : Board → Op → Bool
 is_fabric b o = option_map_or (λ a. false) (access_of b o) (not (is_quiet o))
 
--- the run of an END in an outcome
-abbrev pub run_of : Outcome → Option EndRun
-run_of (out.Routed k (Run run)) = Some run
-run_of (out.Escalated e run) = run
-run_of _ = None
+-- the run of an END in a route or a take
+abbrev pub run_of : Op → Outcome → Option EndRun
+run_of (op.Route s) (out.Routed k (Run run)) = Some run
+run_of (op.Take i) (out.Escalated e run) = run
+run_of _ _ = None

@@ -2,6 +2,7 @@
 use Rattle.std.specs.Prelude.{ℕ, ◌≡◌, ◌==◌, ◌+◌, ◌-◌, ◌^◌, ◌<◌, Bool, true, if◌then◌else◌, List, [], ◌∷◌}
 use Rattle.std.specs.Option.{option_map_or}
 use Rattle.xv_model.specs.declared.operations.Op.{Op}
+use Rattle.xv_model.specs.declared.operations.Op.TheVariants as op
 use Rattle.xv_model.specs.declared.outcomes.Outcome.{Outcome}
 use Rattle.xv_model.specs.declared.outcomes.Outcome.TheVariants as out
 use Rattle.xv_model.specs.declared.entries.Entry.{Entry}
@@ -12,6 +13,8 @@ use Rattle.xv_model.specs.Kinds.{WordAccess, access_of}
 use Rattle.xv_model.specs.PqTable.{Cell, pq_row}
 use Rattle.xv_model.specs.Pairs.{pq, asserted}
 use Rattle.xv_model.specs.Notices.{forwards}
+use Rattle.xv_model.specs.Routing.{route_outcome}
+use Rattle.xv_model.specs.Hypercalls.{hcall_reply}
 use Rattle.xv_model.specs.Validity.{valid}
 
 -- whether a board has the source as a level source
@@ -36,9 +39,12 @@ cell_after z h a = pq_row a.op (is_level z.board a.source) (asserted z h a.sourc
 abbrev pub word_answer : Start → List Entry → WordAccess → Outcome
 word_answer z h a = answer_by (cell_after z h a) (pq z h a.source) (forwards z h a.source)
 
--- no operation on the fabric is valid yet, so none has a row, and no legal account has one
+-- what an operation on the fabric answers; one that isn't built has no row, and no legal account has one
 abbrev pub fabric_answer : Start → List Entry → Op → Outcome
-fabric_answer z h o = out.BadAccess
+fabric_answer z h (op.Route s) = route_outcome z h s
+fabric_answer z h (op.EndSet e c) = out.Fine
+fabric_answer z h (op.Hcall number args) = out.Reply (hcall_reply z h args)
+fabric_answer z h _ = out.BadAccess
 
 -- the one outcome of an operation after an account
 abbrev pub legal : Start → List Entry → Op → Outcome

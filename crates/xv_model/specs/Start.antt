@@ -1,18 +1,12 @@
 -- Where an account begins.
 use Rattle.std.specs.Prelude.{ℕ, Bool, false, not, List, []}
 use Rattle.xv_model.specs.declared.board.Board.{Board}
+use Rattle.xv_model.specs.declared.assignments.Assignment.{Assignment}
 use Rattle.xv_model.specs.declared.operations.EndConfig.{EndConfig}
 use Rattle.xv_model.specs.declared.outcomes.Phase.{Phase}
 use Rattle.xv_model.specs.declared.outcomes.Phase.TheVariants.{Saved}
 use Rattle.xv_model.specs.declared.messages.Message.{Message}
 use Rattle.xv_model.specs.Boards.{is_in}
-
--- an event assignment: whether it is valid and masked, its END, and what it writes
-pub record Assignment : Type 0 where
-  pub valid : Bool
-  pub masked : Bool
-  pub end : ℕ
-  pub eisn : ℕ
 
 -- a start record: the board, and what each definition says before the first entry
 pub record Start : Type 0 where

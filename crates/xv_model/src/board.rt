@@ -1,5 +1,8 @@
 //! A board: how many of each thing it has, and of which kind.
 
+ghost use Rattle.std.specs.Prelude.{◌≡◌, ◌≤◌};
+ghost use Rattle.xv_model.specs.Boards.{is_in};
+
 use xv_base::Limits;
 
 /// The numbers from `first` to `last`, both among them; `first` is at most `last`.
@@ -14,6 +17,18 @@ pub struct Span {
 pub struct Spans {
     pub count: u8,
     pub spans: [Span; 16],
+}
+
+impl Spans {
+    /// Whether a number is in one of the spans.
+    pub fn has(&self, n: u32) -> bool
+        requires { self.now.count ≤ 16 }
+        ensures { result ≡ is_in self.now n }
+    {
+        self.spans[..self.count as usize]
+            .iter()
+            .any(|span| span.first <= n && n <= span.last)
+    }
 }
 
 /// A board: 1 to 8,192 sources, 1 to 64 processors, 1 to 32 threads, 1 to 16 actors.

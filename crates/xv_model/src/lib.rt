@@ -2,6 +2,7 @@
 //! definitions of what they mean. Nothing here runs a board.
 #![tactic(auto)]
 
+pub mod assignments;
 pub mod board;
 pub mod entries;
 pub mod known;

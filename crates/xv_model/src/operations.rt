@@ -90,6 +90,20 @@ pub struct EndConfig {
     pub esc_eisn: u32,
 }
 
+impl EndConfig {
+    /// What an END is told that isn't valid, as each one is at the start.
+    pub const OFF: EndConfig = EndConfig {
+        flags: EndFlags(0),
+        vp: 0,
+        priority: 0,
+        qaddr: 0,
+        qshift: 0,
+        start: 0,
+        esc: 0,
+        esc_eisn: 0,
+    };
+}
+
 /// The fields of the KVM device's queue attribute.
 #[derive(Clone, Copy)]
 pub struct EqFields {

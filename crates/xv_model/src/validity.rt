@@ -1,10 +1,14 @@
 //! Which operations a board has.
 
 ghost use Rattle.std.specs.Prelude.{◌≡◌};
-ghost use Rattle.xv_model.specs.Validity.{valid as is_valid, valid_pq};
+ghost use Rattle.xv_model.specs.Validity.{valid as is_valid, valid_pq, is_queue_shift, is_queue as may_be_queue, has_queue as has_its_queue, never_escalates, has_nothing, notifies_one, valid_config as may_be_config};
 
 use crate::board::Board;
-use crate::operations::{Op, PqOp};
+use crate::operations::{EndConfig, EndFlags, Op, PqOp};
+use bitflags::Flags;
+
+/// The number of the hypercall that configures a source.
+pub const SET_SOURCE_CONFIG: u64 = 0x3ac;
 
 /// Whether an operation on a source's pair is built, and its pair is one.
 fn valid_on_pair(op: PqOp) -> bool
@@ -19,13 +23,86 @@ fn valid_on_pair(op: PqOp) -> bool
     }
 }
 
+/// Whether a queue may have 2 to the power of this many bytes.
+fn queue_shift(shift: u32) -> bool
+    ensures { result ≡ is_queue_shift shift }
+{
+    shift == 12 || shift == 16 || shift == 21 || shift == 24
+}
+
+/// Whether a board can have a queue there: it is aligned, and lies in memory.
+fn is_queue(board: &Board, addr: u64, shift: u32) -> bool
+    ensures { result ≡ may_be_queue board.now addr shift }
+{
+    if !queue_shift(shift) {
+        return false;
+    }
+    let ram = board.ram_mib as u64 * (1 << 20);
+    let size = 1u64 << shift;
+    addr % size == 0 && addr <= ram && ram - addr >= size
+}
+
+/// Whether a configuration has a queue where it has q, and none where it hasn't.
+fn has_queue(board: &Board, config: &EndConfig) -> bool
+    ensures { result ≡ has_its_queue board.now config.now }
+{
+    if config.flags.contains(EndFlags::ENQUEUE) {
+        is_queue(board, config.qaddr, config.qshift)
+    } else {
+        config.qaddr == 0 && config.qshift == 0
+    }
+}
+
+/// Whether a configuration has no escalation END.
+fn escalates_nowhere(config: &EndConfig) -> bool
+    ensures { result ≡ never_escalates config.now }
+{
+    config.esc == 0 && config.esc_eisn == 0
+}
+
+/// Whether all fields but those of the queue are 0.
+fn is_empty(config: &EndConfig) -> bool
+    ensures { result ≡ has_nothing config.now }
+{
+    config.flags.bits() == 0 && config.vp == 0 && config.priority == 0 && escalates_nowhere(config)
+}
+
+/// Whether the flags, the target and the priority are in range.
+fn notifies(board: &Board, config: &EndConfig) -> bool
+    ensures { result ≡ notifies_one board.now config.now }
+{
+    config.flags.bits() < 16
+        && config.vp < board.limits.processors
+        && config.priority < 8
+        && escalates_nowhere(config)
+}
+
+/// Whether an END of a board may be configured so.
+pub fn valid_config(board: &Board, config: &EndConfig) -> bool
+    ensures { result ≡ may_be_config board.now config.now }
+{
+    if config.start != 0 || !has_queue(board, config) {
+        return false;
+    }
+    if config.flags.contains(EndFlags::VALID) {
+        notifies(board, config)
+    } else {
+        is_empty(config)
+    }
+}
+
 /// Whether each number of an operation is in range on a board. It is false for an operation that isn't
 /// built yet.
 pub fn valid(board: &Board, op: &Op) -> bool
     ensures { result ≡ is_valid board.now op.now }
 {
-    match *op {
-        Op::Pq { s, op } => s < board.limits.sources && valid_on_pair(op),
+    match op {
+        Op::Pq { s, op } => *s < board.limits.sources && valid_on_pair(*op),
+        Op::Route { s } => *s < board.limits.sources,
+        Op::EndSet { e, config } => {
+            (*e as u64) < 8 * board.limits.processors as u64 && valid_config(board, config)
+        }
+        Op::Hcall { number, args: _ } => *number == SET_SOURCE_CONFIG,
         _ => false,
     }
 }

@@ -1,0 +1,129 @@
+//! Configurations of ENDs and sources.
+
+ghost use Rattle.std.specs.Prelude.{◌≡◌, ◌<◌, ◌*◌, ◌∷◌, ℕ, List, true};
+ghost use Rattle.xv_model.specs.declared.entries.Entry.{Entry};
+ghost use Rattle.xv_model.specs.declared.operations.Op.TheVariants.{EndSet, Hcall};
+ghost use Rattle.xv_model.specs.declared.outcomes.Outcome.TheVariants.{Fine, Reply};
+ghost use Rattle.xv_model.specs.Start.{Start};
+ghost use Rattle.xv_model.specs.Assignments.{set_source_config as number_of_call};
+ghost use Rattle.xv_model.specs.Hypercalls.{hcall_reply};
+ghost use Rattle.xv_model.specs.Validity.{valid_config};
+ghost use Rattle.router.specs.Standing.{StandsFor};
+
+use crate::ends::EndRecord;
+use crate::tables::Tables;
+use bitflags::Flags;
+use xv_model::assignments::Assignment;
+use xv_model::operations::{EndConfig, EndFlags};
+use xv_model::outcomes::HReply;
+
+/// The codes of hypercalls.
+const H_SUCCESS: i64 = 0;
+
+const H_PARAMETER: i64 = -4;
+
+const H_P2: i64 = -55;
+
+const H_P3: i64 = -56;
+
+const H_P4: i64 = -57;
+
+/// The priority that masks a source and forgets its END.
+const MASKED_OFF: u64 = 0xff;
+
+impl Tables {
+    /// Whether a number is that of a source with a valid assignment.
+    fn is_source(&self, s: u64) -> bool {
+        s < self.board.limits.sources as u64 && self.assignments[s as usize].valid
+    }
+
+    /// Whether a number is that of a connected processor.
+    fn is_target(&self, v: u64) -> bool {
+        v < self.board.limits.processors as u64 && !self.board.unconnected.has(v as u32)
+    }
+
+    /// The code of SET_SOURCE_CONFIG.
+    fn source_config_code(&self, args: &[u64; 5]) -> i64 {
+        let [flags, source, target, priority, _] = *args;
+        if flags > 3 {
+            return H_PARAMETER;
+        }
+        if !self.is_source(source) {
+            return H_P2;
+        }
+        if priority == MASKED_OFF {
+            return H_SUCCESS;
+        }
+        if priority > 6 {
+            return H_P4;
+        }
+        if !self.is_target(target) {
+            return H_P3;
+        }
+        H_SUCCESS
+    }
+
+    /// Configures an END: its counts begin anew, and so do its states.
+    pub fn configure(&mut self, e: u32, config: &EndConfig)
+        requires end { e < 8 * self.old.board.limits.processors }
+        requires config { valid_config self.old.board config.now ≡ true }
+        ensures stands { (z : Start) (h : List Entry) (actor : ℕ) → StandsFor self.old z h → StandsFor self.new z (record { actor = actor; op = EndSet e config.now; outcome = Fine } ∷ h) }
+        ensures board { self.new.board ≡ self.old.board }
+        ensures routed { self.new.routed ≡ self.old.routed }
+    {
+        let state = if config.flags.contains(EndFlags::VALID) {
+            0
+        } else {
+            1
+        };
+        self.ends[e as usize] = EndRecord {
+            config: *config,
+            written: 0,
+            taken: 0,
+            esn: state,
+            ese: state,
+        };
+    }
+
+    /// The hypercall SET_SOURCE_CONFIG (0x3ac), by its arguments: flags (1 masks, 2 gives the payload), source,
+    /// target processor, priority (0xff masks and forgets the END), payload. The codes: -4 for another flag, -55
+    /// for a source that isn't there or has no valid assignment, -57 for a priority that is neither 0 to 6 nor
+    /// 0xff, -56 for a target that isn't a connected processor; the first of these that holds. QEMU's
+    /// hw/intc/spapr_xive.c, h_int_set_source_config.
+    pub fn set_source_config(&mut self, args: &[u64; 5]) -> HReply
+        ensures reply { (z : Start) (h : List Entry) → StandsFor self.old z h → result ≡ hcall_reply z h args.now }
+        ensures stands { (z : Start) (h : List Entry) (actor : ℕ) → StandsFor self.old z h → StandsFor self.new z (record { actor = actor; op = Hcall number_of_call args.now; outcome = Reply result } ∷ h) }
+        ensures bare { result.outs ≡ 0 }
+        ensures board { self.new.board ≡ self.old.board }
+        ensures routed { self.new.routed ≡ self.old.routed }
+    {
+        let code = self.source_config_code(args);
+        if code == H_SUCCESS {
+            let assignment = &mut self.assignments[args[1] as usize];
+            *assignment = if args[3] == MASKED_OFF {
+                Assignment {
+                    valid: true,
+                    masked: true,
+                    end: 0,
+                    eisn: 0,
+                }
+            } else {
+                Assignment {
+                    valid: true,
+                    masked: args[0] & 1 != 0,
+                    end: (8 * args[2] + args[3]) as u32,
+                    eisn: if args[0] & 2 != 0 {
+                        (args[4] % (1 << 31)) as u32
+                    } else {
+                        assignment.eisn
+                    },
+                }
+            };
+        }
+        HReply {
+            code,
+            outs: 0,
+            out: [0; 4],
+        }
+    }
+}

@@ -1,0 +1,1 @@
+//! Routes, configurations and messages.

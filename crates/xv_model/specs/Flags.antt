@@ -1,0 +1,28 @@
+-- The flags of an END (POWER9's XIVE, "event notification descriptor", word 0; QEMU's include/hw/ppc/xive_regs.h).
+use Rattle.std.specs.Prelude.{ℕ, ◌==◌, Bool}
+use Rattle.std.specs.Int.RustNames.{bit_and}
+use Rattle.xv_model.specs.declared.operations.EndConfig.{EndConfig}
+
+-- whether a number has a bit
+abbrev pub has_bit : ℕ → ℕ → Bool
+has_bit n bit = bit_and n bit == bit
+
+-- v: the END is valid
+abbrev pub is_valid : EndConfig → Bool
+is_valid c = has_bit c.flags.0 1
+
+-- q: what is routed to it is written into its queue
+abbrev pub enqueues : EndConfig → Bool
+enqueues c = has_bit c.flags.0 2
+
+-- n: it notifies whatever its state is
+abbrev pub always_notifies : EndConfig → Bool
+always_notifies c = has_bit c.flags.0 4
+
+-- e: what isn't delivered escalates
+abbrev pub escalates : EndConfig → Bool
+escalates c = has_bit c.flags.0 16
+
+-- s: it presents nothing
+abbrev pub is_silent : EndConfig → Bool
+is_silent c = has_bit c.flags.0 64
