@@ -14,7 +14,7 @@ use Rattle.xv_model.specs.Validity.{valid}
 use Rattle.xv_model.specs.Text.{entry_line, next_index}
 use Rattle.board_script.specs.declared.work.Work.{Work}
 use Rattle.board_script.specs.Script.{WorkLine, line_for}
-use Rattle.board_script.specs.Working.{HasMade, next_op}
+use Rattle.board_script.specs.Working.{HasMade, IsLast, next_op}
 use Rattle.xive_cli.specs.declared.machine.Machine.{Machine}
 use Rattle.xive_cli.specs.Running.{Makes, RunsPart, FailsAt, part_text}
 
@@ -23,9 +23,9 @@ pub one_more_entry : (w : WorkLine) (going going' : Work) (m m' : Machine) (op :
     RunsPart z (line_for w) m w0 k0 w1 k1 h part → HasMade going w.work part →
     next_op w.work part (part ++ h) ≡ Some op →
     ((x : Entry) → x.op ≡ op → HasMade going' w.work (x ∷ part)) →
-    w.actor < m.board.limits.actors → valid m.board op ≡ true →
+    w.actor < m.tables.board.limits.actors → valid m.tables.board op ≡ true →
     Makes m m' (record { actor = w.actor; op = op; outcome = outcome }) w1 k1 w2 k2 →
-    (part : List Entry) × RunsPart z (line_for w) m' w0 k0 w2 k2 h part × HasMade going' w.work part
+    (part : List Entry) × RunsPart z (line_for w) m' w0 k0 w2 k2 h part × HasMade going' w.work part × IsLast part (Some outcome)
 one_more_entry w going going' m m' op outcome w0 w1 w2 k0 k1 k2 z h part r made next goes actor_is valid_op makes = (
   record { actor = w.actor; op = op; outcome = outcome } ∷ part,
   record {
@@ -33,8 +33,8 @@ one_more_entry w going going' m m' op outcome w0 w1 w2 k0 k1 k2 z h part r made 
     legal = (
       r.legal,
       record {
-        actor = subst (λ (b : Board). w.actor < b.limits.actors) r.stands.board actor_is;
-        valid_op = subst (λ (b : Board). valid b op ≡ true) r.stands.board valid_op;
+        actor = subst (λ (b : Board). w.actor < b.limits.actors) r.stands.parts.tables.board actor_is;
+        valid_op = subst (λ (b : Board). valid b op ≡ true) r.stands.parts.tables.board valid_op;
         outcome = makes.outcome z (part ++ h) r.stands;
       },
     );
@@ -43,11 +43,12 @@ one_more_entry w going going' m m' op outcome w0 w1 w2 k0 k1 k2 z h part r made 
         (subst (λ n. Puts w1 k1 w2 k2 (entry_line n (record { actor = w.actor; op = op; outcome = outcome }))) r.stands.index makes.puts);
   },
   goes (record { actor = w.actor; op = op; outcome = outcome }) refl,
+  refl,
 )
 
 -- one more entry of a line was made, and its line was not put whole
 pub one_failed : (w : WorkLine) (m : Machine) (op : Op) (w0 w1 : List ℕ) (k0 k1 k2 : Option (List ℕ)) (z : Start) (h part : List Entry) →
-    RunsPart z (line_for w) m w0 k0 w1 k1 h part → next_op w.work part (part ++ h) ≡ Some op → w.actor < m.board.limits.actors → valid m.board op ≡ true →
+    RunsPart z (line_for w) m w0 k0 w1 k1 h part → next_op w.work part (part ++ h) ≡ Some op → w.actor < m.tables.board.limits.actors → valid m.tables.board op ≡ true →
     FailsAt m w.actor op w1 k1 k2 → (part : List Entry) × Begins (line_for w) h part × IsLegal z (part ++ h) × AppendsPrefix k0 k2 (w0 ++ part_text z h part)
 one_failed w m op w0 w1 k0 k1 k2 z h part r next actor_is valid_op fails = (
   record { actor = w.actor; op = op; outcome = fails.outcome } ∷ part,
@@ -55,8 +56,8 @@ one_failed w m op w0 w1 k0 k1 k2 z h part r next actor_is valid_op fails = (
   (
     r.legal,
     record {
-      actor = subst (λ (b : Board). w.actor < b.limits.actors) r.stands.board actor_is;
-      valid_op = subst (λ (b : Board). valid b op ≡ true) r.stands.board valid_op;
+      actor = subst (λ (b : Board). w.actor < b.limits.actors) r.stands.parts.tables.board actor_is;
+      valid_op = subst (λ (b : Board). valid b op ≡ true) r.stands.parts.tables.board valid_op;
       outcome = fails.is_legal z (part ++ h) r.stands;
     },
   ),

@@ -1,9 +1,7 @@
 -- A step of a machine that stands for an account.
-use Rattle.std.proofs.Common.{ℕ, ◌≡◌, ◌≢◌, ◌==◌, ◌+◌, ◌-◌, ◌<◌, Bool, true, false, if◌then◌else◌, List, [], ◌∷◌, length, Option, Some, None, refl, sym, ◌∙◌, ap, subst, arith, suc, slice_index_or, slice_set, slice_get, inl, inr, get_or-set_same, get_or-set_other, add-one}
+use Rattle.std.proofs.Common.{ℕ, ◌≡◌, ◌≢◌, ◌==◌, ◌+◌, ◌-◌, ◌<◌, ◌≤◌, Bool, true, false, if◌then◌else◌, List, [], ◌∷◌, length, Option, Some, None, refl, sym, ◌∙◌, ap, subst, arith, suc, slice_index_or, slice_set, slice_get, inl, inr, get_or-set_same, get_or-set_other, add-one}
 use Rattle.std.proofs.lemmas.Bool.{cases_eq, and_parts, ltb-true}
-use Rattle.std.specs.Prelude.{nat_lt, nat_le, ◌&&◌, not, take, zero}
-use Rattle.std.specs.List.{list_any}
-use Rattle.xv_model.specs.declared.board.Spans.{Spans}
+use Rattle.std.specs.Prelude.{nat_lt, ◌&&◌, zero}
 use Rattle.std.proofs.Math.ListN.{length-set, replicate, length-replicate}
 use Rattle.std.proofs.lemmas.List.{get_or-replicate}
 use Rattle.std.proofs.lemmas.Bool.Decides.{nat_tests}
@@ -14,25 +12,33 @@ use Rattle.xv_model.specs.declared.operations.PqOp.{PqOp}
 use Rattle.xv_model.specs.declared.operations.PqOp.TheVariants.{Trigger, Eoi, Get, Set, Raise, Lower, Init}
 use Rattle.xv_model.specs.declared.operations.Op.{Op}
 use Rattle.xv_model.specs.declared.operations.Op.TheVariants as op
+use Rattle.xv_model.specs.declared.outcomes.Routed.{Routed}
 use Rattle.xv_model.specs.declared.outcomes.Outcome.{Outcome}
 use Rattle.xv_model.specs.declared.outcomes.Outcome.TheVariants as out
 use Rattle.xv_model.specs.declared.entries.Entry.{Entry}
-use Rattle.xv_model.specs.Boards.{is_in, IsPlain}
 use Rattle.xv_model.specs.Start.{Start, start}
+use Rattle.xv_model.specs.Kinds.{WordAccess, access_of, is_at, is_word}
 use Rattle.xv_model.specs.PqTable.{Cell, pq_row, flag_after}
 use Rattle.xv_model.specs.Pairs.{Touch, Change, pq, asserted, touch_at, touch_by, change_in}
-use Rattle.xv_model.specs.Notices.{forwards, routes, outstanding, sum_below, all_outstanding}
+use Rattle.xv_model.specs.Notices.{forwards, route_in, routes, outstanding, sum_below, all_outstanding}
+use Rattle.xv_model.specs.Assignments.{assignment}
+use Rattle.xv_model.specs.Flight.{flight}
+use Rattle.xv_model.specs.Routing.{most_messages, routed_by, route_outcome}
 use Rattle.xv_model.specs.Validity.{valid, valid_pq}
-use Rattle.xv_model.specs.Legal.{answer_by}
-use Rattle.xv_model.proofs.Sums.{sum_below-more_at}
+use Rattle.xv_model.specs.Legal.{answer_by, most_forwards}
+use Rattle.xv_model.proofs.HalvesLemmas.{pq-skips, asserted-skips, forwards-skips}
+use Rattle.xv_model.proofs.Sums.{sum_below-same, sum_below-more_at, sum_below-zero}
+use Rattle.router.specs.Kept.{Kept}
+use Rattle.router.specs.Standing.{StandsFor as TablesStandFor}
+use Rattle.router.proofs.Keeping.{word_keeps}
 use Rattle.xive_cli.specs.declared.state.SourceState.{SourceState}
-use Rattle.xive_cli.specs.States.{state_by, state_after, outcome_of, forwarded_in}
+use Rattle.xive_cli.specs.States.{state_by, state_after, outcome_of, forwarded_in, consumed_in}
 use Rattle.xive_cli.specs.Held.{Held}
-use Rattle.xive_cli.specs.Standing.{StandsFor, state_of}
+use Rattle.xive_cli.specs.Standing.{AreParts, StandsFor, state_of}
 
--- what the machine has of a source is what the account gives
-pub found : (m : Held) (z : Start) (h : List Entry) (s : ℕ) (w : SourceState) → StandsFor m z h → s < m.board.limits.sources → w ≡ slice_index_or m.states s w → w ≡ state_of z h s
-found m z h s w st l e = e ∙ get_or_from_slice_get m.states s (state_of z h s) w (st.states s (subst (λ b. s < b.limits.sources) st.board l))
+-- what is kept of a source is what the account gives
+pub found : (t : Kept) (states : List SourceState) (z : Start) (h : List Entry) (s : ℕ) (w : SourceState) → AreParts t states z h → s < t.board.limits.sources → w ≡ slice_index_or states s w → w ≡ state_of z h s
+found t states z h s w st l e = e ∙ get_or_from_slice_get states s (state_of z h s) w (st.states s (subst (λ b. s < b.limits.sources) st.tables.board l))
 
 -- the state after an entry that touches its source
 touched : (c : Cell) (o : PqOp) (s : ℕ) (w : SourceState) →
@@ -76,76 +82,181 @@ flag_by q s o (Some c) on v e = by (s == q)
     by true = flag_kept o on v ∙ e
     by false = e
 
-outstanding_is : (f r f' r' k : ℕ) → r ≡ 0 → r' ≡ r → f' ≡ f + k → f' - r' ≡ (f - r) + k
-outstanding_is f r f' r' k a b c = omega arith
+outstanding_is : (f r f' r' k : ℕ) → r ≤ f → r' ≡ r → f' ≡ f + k → f' - r' ≡ (f - r) + k
+outstanding_is f r f' r' k a b c = omega (arith, a, b, c)
 
--- the notices that are out after the step
-notices_after : (z : Start) (h : List Entry) (s actor n : ℕ) (o : PqOp) (r : Outcome) → s < z.board.limits.sources → ((q : ℕ) → routes z h q ≡ 0) → n ≡ all_outstanding z h →
-    n + forwarded_in r ≡ all_outstanding z (record { actor = actor; op = op.Pq s o; outcome = r } ∷ h)
-notices_after z h s actor n o r l none e =
-    ap (λ n. n + forwarded_in r) e ∙ sym (sum_below-more_at (outstanding z h) (outstanding z (record { actor = actor; op = op.Pq s o; outcome = r } ∷ h)) z.board.limits.sources s (forwarded_in r) l here (λ q _ d. there q d))
+-- the notices that are out after an entry on a source's word
+pub word_notices : (z : Start) (h : List Entry) (s actor : ℕ) (o : PqOp) (r : Outcome) → s < z.board.limits.sources → ((q : ℕ) → routes z h q ≤ forwards z h q) →
+    all_outstanding z (record { actor = actor; op = op.Pq s o; outcome = r } ∷ h) ≡ all_outstanding z h + forwarded_in r
+word_notices z h s actor o r l within =
+    sum_below-more_at (outstanding z h) (outstanding z (record { actor = actor; op = op.Pq s o; outcome = r } ∷ h)) z.board.limits.sources s (forwarded_in r) l here (λ q _ d. there q d)
   where
     here : outstanding z (record { actor = actor; op = op.Pq s o; outcome = r } ∷ h) s ≡ outstanding z h s + forwarded_in r
-    here = outstanding_is (forwards z h s) (routes z h s) (forwards z (record { actor = actor; op = op.Pq s o; outcome = r } ∷ h) s) (routes z (record { actor = actor; op = op.Pq s o; outcome = r } ∷ h) s) (forwarded_in r) (none s) (omega arith) (forwards_by s o r (forwards z h s))
+    here = outstanding_is (forwards z h s) (routes z h s) (forwards z (record { actor = actor; op = op.Pq s o; outcome = r } ∷ h) s) (routes z (record { actor = actor; op = op.Pq s o; outcome = r } ∷ h) s) (forwarded_in r) (within s) (omega arith) (forwards_by s o r (forwards z h s))
 
     there : (q : ℕ) → q ≢ s → outstanding z (record { actor = actor; op = op.Pq s o; outcome = r } ∷ h) q ≡ outstanding z h q
     there q d =
         let same : forwards z (record { actor = actor; op = op.Pq s o; outcome = r } ∷ h) q ≡ forwards z h q = ap (λ (w : SourceState). w.forwards) (untouched z h s q actor o r d) in
-        outstanding_is (forwards z h q) (routes z h q) (forwards z (record { actor = actor; op = op.Pq s o; outcome = r } ∷ h) q) (routes z (record { actor = actor; op = op.Pq s o; outcome = r } ∷ h) q) 0 (none q) (omega arith) (omega arith) ∙ omega arith
+        outstanding_is (forwards z h q) (routes z h q) (forwards z (record { actor = actor; op = op.Pq s o; outcome = r } ∷ h) q) (routes z (record { actor = actor; op = op.Pq s o; outcome = r } ∷ h) q) 0 (within q) (omega arith) (omega (arith, same)) ∙ omega arith
 
--- the machine after the step
-pub stands_after : (m m' : Held) (z : Start) (h : List Entry) (s actor : ℕ) (o : PqOp) (w w' : SourceState) (r : Outcome) → StandsFor m z h → s < m.board.limits.sources → length m.states ≡ m.board.limits.sources → valid_pq o ≡ true →
-    w ≡ state_of z h s → r ≡ outcome_of o w → w' ≡ state_after o w →
-    m'.board ≡ m.board → m'.states ≡ slice_set m.states s w' → m'.count ≡ m.count + 1 → m'.notices ≡ m.notices + forwarded_in r →
-    StandsFor m' z (record { actor = actor; op = op.Pq s o; outcome = r } ∷ h)
-stands_after m m' z h s actor o w w' r st l n v e g k board_is states_are count_is notices_are = record {
-  board = board_is ∙ st.board;
+-- no answer on a source's word consumes a notice
+pub word_consumes : (c : Cell) (q n : ℕ) → consumed_in (answer_by c q n) ≡ 0
+word_consumes c q n = by c.forwards (n == most_forwards)
+  where
+    by : (f e : Bool) → consumed_in (if f then (if e then out.Spent else out.Pq q c.pair (n + 1)) else out.Pq q c.pair 0) ≡ 0
+    by true true = refl
+    by true false = refl
+    by false e = refl
+
+-- the parts after an entry on a source's word
+pub word_parts : (t : Kept) (states states' : List SourceState) (z : Start) (h : List Entry) (s actor : ℕ) (o : PqOp) (w w' : SourceState) (r : Outcome) → AreParts t states z h → s < t.board.limits.sources → length states ≡ t.board.limits.sources → valid_pq o ≡ true →
+    w ≡ state_of z h s → r ≡ outcome_of o w → w' ≡ state_after o w → states' ≡ slice_set states s w' →
+    AreParts t states' z (record { actor = actor; op = op.Pq s o; outcome = r } ∷ h)
+word_parts t states states' z h s actor o w w' r st l n v e g k states_are = record {
+  tables = word_keeps t z h s actor o r st.tables;
   states = λ q lq. subst (λ (ws : List SourceState). slice_get ws q ≡ Some (state_of z (record { actor = actor; op = op.Pq s o; outcome = r } ∷ h) q)) (sym states_are) (elim (cases_eq q s) [
-    | inl same ↦ subst (λ q. slice_get (slice_set m.states s w') q ≡ Some (state_of z (record { actor = actor; op = op.Pq s o; outcome = r } ∷ h) q)) (sym same) (here ∙ ap Some mine)
-    | inr other ↦ there q (slice_get_within m.states q _ (st.states q lq)) other ∙ st.states q lq ∙ ap Some (sym (untouched z h s q actor o r other))
+    | inl same ↦ subst (λ q. slice_get (slice_set states s w') q ≡ Some (state_of z (record { actor = actor; op = op.Pq s o; outcome = r } ∷ h) q)) (sym same) (here ∙ ap Some mine)
+    | inr other ↦ there q (slice_get_within states q _ (st.states q lq)) other ∙ st.states q lq ∙ ap Some (sym (untouched z h s q actor o r other))
   ]);
-  index = count_is ∙ add-one m.count ∙ ap suc st.index;
-  notices = notices_are ∙ notices_after z h s actor m.notices o r (subst (λ (b : Board). s < b.limits.sources) st.board l) st.never_routed st.notices;
   never_asserted = λ q. flag_by q s o (change_in r) (asserted z h q) v (st.never_asserted q);
-  never_routed = λ q. let before = st.never_routed q in omega arith;
-  claimed = st.claimed;
+  forwarded = λ q. let before = st.forwarded q in omega arith;
 }
   where
-    inside : s < length m.states
-    inside = omega arith
+    inside : s < length states
+    inside = omega (arith, l, n)
 
-    here : slice_get (slice_set m.states s w') s ≡ Some w'
-    here = slice_get-get_or (slice_set m.states s w') s w' (subst (λ k. s < k) (sym (length-set m.states s w')) inside) ∙ ap Some (get_or-set_same m.states s w' w' inside)
+    here : slice_get (slice_set states s w') s ≡ Some w'
+    here = slice_get-get_or (slice_set states s w') s w' (subst (λ k. s < k) (sym (length-set states s w')) inside) ∙ ap Some (get_or-set_same states s w' w' inside)
 
-    there : (q : ℕ) → q < length m.states → q ≢ s → slice_get (slice_set m.states s w') q ≡ slice_get m.states q
-    there q lq other = slice_get-get_or (slice_set m.states s w') q w' (subst (λ k. q < k) (sym (length-set m.states s w')) lq) ∙ ap Some (get_or-set_other m.states s q w' w' other) ∙ sym (slice_get-get_or m.states q w' lq)
+    there : (q : ℕ) → q < length states → q ≢ s → slice_get (slice_set states s w') q ≡ slice_get states q
+    there q lq other = slice_get-get_or (slice_set states s w') q w' (subst (λ k. q < k) (sym (length-set states s w')) lq) ∙ ap Some (get_or-set_other states s q w' w' other) ∙ sym (slice_get-get_or states q w' lq)
 
     mine : w' ≡ state_of z (record { actor = actor; op = op.Pq s o; outcome = r } ∷ h) s
     mine = k ∙ ap (state_after o) e ∙ touched (pq_row o false false (pq z h s)) o s (state_of z h s) ∙ ap (λ r. state_of z (record { actor = actor; op = op.Pq s o; outcome = r } ∷ h) s) (sym (g ∙ ap (outcome_of o) e))
+
+-- an operation that is no access is on no word
+on_no_word : (b : Board) (q : ℕ) (o : Op) → access_of b o ≡ None → is_word b q o ≡ false
+on_no_word b q o e = ap (is_at q) e
+
+-- the parts after an entry on no word, with the tables after it
+pub fabric_parts : (t t' : Kept) (states : List SourceState) (z : Start) (h : List Entry) (x : Entry) → AreParts t states z h → access_of z.board x.op ≡ None → TablesStandFor t' z (x ∷ h) →
+    ((q : ℕ) → routes z (x ∷ h) q ≤ forwards z h q) → AreParts t' states z (x ∷ h)
+fabric_parts t t' states z h x st none after within = record {
+  tables = after;
+  states = λ q l. st.states q l ∙ ap Some (sym (same q));
+  never_asserted = λ q. asserted-skips z q x h (on_no_word z.board q x.op none) ∙ st.never_asserted q;
+  forwarded = λ q. subst (λ n. routes z (x ∷ h) q ≤ n) (sym (forwards-skips z q x h (on_no_word z.board q x.op none))) (within q);
+}
+  where
+    make : ℕ → ℕ → SourceState
+    make pair forwards = record { pair = pair; forwards = forwards }
+
+    same : (q : ℕ) → state_of z (x ∷ h) q ≡ state_of z h q
+    same q =
+        let word = on_no_word z.board q x.op none in
+        ap (λ p. make p (forwards z (x ∷ h) q)) (pq-skips z q x h word) ∙ ap (λ n. make (pq z h q) n) (forwards-skips z q x h word)
+
+-- a count that stands still
+same_count : (n k : ℕ) → k ≡ n → k + 0 ≡ n + 0
+same_count n k e = omega (arith, e)
+
+-- the routes after an entry that routes nothing
+pub unrouted : (z : Start) (h : List Entry) (x : Entry) → route_in x.op x.outcome ≡ None → (q : ℕ) → routes z (x ∷ h) q ≡ routes z h q
+unrouted z h x none q = rw none (omega arith)
+
+-- the notices after an entry on no word that routes nothing
+pub quiet_notices : (z : Start) (h : List Entry) (x : Entry) → access_of z.board x.op ≡ None → route_in x.op x.outcome ≡ None → all_outstanding z (x ∷ h) ≡ all_outstanding z h
+quiet_notices z h x none unrouted_here = sum_below-same (outstanding z h) (outstanding z (x ∷ h)) z.board.limits.sources (λ q l.
+    let f = forwards-skips z q x h (on_no_word z.board q x.op none) in
+    let r = unrouted z h x unrouted_here q in omega (arith, f, r))
+
+-- what a route of s answers, by what its tests say
+route_by : Start → List Entry → ℕ → Bool → Bool → Outcome
+route_by z h s none full = if none then out.NoNotice else (if full then out.BusFull else out.Routed (routes z h s + 1) (routed_by z h (assignment z h s)))
+
+-- how many notices of s a route of it consumes, by what its tests say
+routed_one : (z : Start) (h : List Entry) (s q : ℕ) (none full : Bool) → (outstanding z h s == 0) ≡ none →
+    let o = route_by z h s none full in
+    let k : ℕ = option_map_or (λ r. if r == q then 1 else 0) (route_in (op.Route s) o) 0 in
+    ((q ≡ s) → (k ≡ consumed_in o)) × ((q ≢ s) → (k ≡ 0)) × (consumed_in o ≤ outstanding z h s)
+unfolding route_by
+routed_one z h s q true full e = (λ same. refl, λ other. refl, omega arith)
+routed_one z h s q false true e = (λ same. refl, λ other. refl, omega arith)
+routed_one z h s q false false e = (λ same. grind (arith, nat_tests), λ other. grind (arith, nat_tests), grind (arith, nat_tests))
+
+-- the same of what it answers
+routed_at : (z : Start) (h : List Entry) (s q : ℕ) →
+    let o = route_outcome z h s in
+    let k : ℕ = option_map_or (λ r. if r == q then 1 else 0) (route_in (op.Route s) o) 0 in
+    ((q ≡ s) → (k ≡ consumed_in o)) × ((q ≢ s) → (k ≡ 0)) × (consumed_in o ≤ outstanding z h s)
+unfolding route_by
+routed_at z h s q = routed_one z h s q (outstanding z h s == 0) (length (flight z h) == most_messages) refl
+
+-- the routes of a source after a route stay within its forwards
+pub routed_within : (z : Start) (h : List Entry) (s actor : ℕ) (o : Outcome) → o ≡ route_outcome z h s → ((q : ℕ) → routes z h q ≤ forwards z h q) →
+    (q : ℕ) → routes z (record { actor = actor; op = op.Route s; outcome = o } ∷ h) q ≤ forwards z h q
+routed_within z h s actor o e within q =
+    subst (λ o. routes z (record { actor = actor; op = op.Route s; outcome = o } ∷ h) q ≤ forwards z h q) (sym e) (elim (cases_eq q s) [
+      | inl same ↦ let r = routed_at z h s q in let k = r.0 same in let l = subst (λ i. consumed_in (route_outcome z h s) ≤ outstanding z h i) (sym same) r.2 in let w = within q in omega (arith, k, l, w)
+      | inr other ↦ let k = (routed_at z h s q).1 other in let w = within q in omega (arith, k, w)
+    ])
+
+-- a route forwards nothing
+route_keeps_forwards : (z : Start) (h : List Entry) (s actor q : ℕ) (o : Outcome) → forwards z (record { actor = actor; op = op.Route s; outcome = o } ∷ h) q ≡ forwards z h q
+route_keeps_forwards z h s actor q o = omega arith
+
+-- the notices of s that are out after a route of it
+out_here : (z : Start) (h : List Entry) (s actor : ℕ) → let o = route_outcome z h s in outstanding z h s ≡ outstanding z (record { actor = actor; op = op.Route s; outcome = o } ∷ h) s + consumed_in o
+out_here z h s actor = let r = routed_at z h s s in let k = r.0 refl in let l = r.2 in let f = route_keeps_forwards z h s actor s (route_outcome z h s) in omega (arith, k, l, f)
+
+-- the notices of another source
+out_there : (z : Start) (h : List Entry) (s actor q : ℕ) → q ≢ s → outstanding z h q ≡ outstanding z (record { actor = actor; op = op.Route s; outcome = route_outcome z h s } ∷ h) q
+out_there z h s actor q other = let k = (routed_at z h s q).1 other in let f = route_keeps_forwards z h s actor q (route_outcome z h s) in omega (arith, k, f)
+
+-- the notices that are out after a route
+pub route_notices : (z : Start) (h : List Entry) (s actor : ℕ) (o : Outcome) → o ≡ route_outcome z h s → s < z.board.limits.sources →
+    all_outstanding z (record { actor = actor; op = op.Route s; outcome = o } ∷ h) + consumed_in o ≡ all_outstanding z h
+route_notices z h s actor o e l = subst (λ o. all_outstanding z (record { actor = actor; op = op.Route s; outcome = o } ∷ h) + consumed_in o ≡ all_outstanding z h) (sym e)
+    (sym (sum_below-more_at (outstanding z (record { actor = actor; op = op.Route s; outcome = route_outcome z h s } ∷ h)) (outstanding z h) z.board.limits.sources s (consumed_in (route_outcome z h s)) l (out_here z h s actor) (λ q lq other. out_there z h s actor q other)))
+
+-- no route forwards
+pub route_forwards : (z : Start) (h : List Entry) (s : ℕ) → forwarded_in (route_outcome z h s) ≡ 0
+route_forwards z h s = by (outstanding z h s == 0) (length (flight z h) == most_messages)
+  where
+    by : (none full : Bool) → forwarded_in (if none then out.NoNotice else (if full then out.BusFull else out.Routed (routes z h s + 1) (routed_by z h (assignment z h s)))) ≡ 0
+    by true full = refl
+    by false true = refl
+    by false false = refl
+
+-- the machine after a step, whose parts stand for the account with the entry
+pub stands_after : (m m' : Held) (z : Start) (h : List Entry) (x : Entry) → StandsFor m z h → AreParts m'.tables m'.states z (x ∷ h) → m'.count ≡ m.count + 1 →
+    all_outstanding z (x ∷ h) + consumed_in x.outcome ≡ all_outstanding z h + forwarded_in x.outcome → m'.notices ≡ m.notices + forwarded_in x.outcome - consumed_in x.outcome → StandsFor m' z (x ∷ h)
+stands_after m m' z h x st parts count_is out_is notices_are = record {
+  parts = parts;
+  index = count_is ∙ add-one m.count ∙ ap suc st.index;
+  notices = let before = st.notices in omega (arith, before, out_is, notices_are);
+}
 
 -- a valid operation names a source
 pub in_range : (b : Board) (p : Op) (s : ℕ) (o : PqOp) → p ≡ op.Pq s o → valid b p ≡ true → (s < b.limits.sources) × (valid_pq o ≡ true)
 in_range b p s o e v = let both = and_parts (nat_lt s b.limits.sources) (valid_pq o) (subst (λ p. valid b p ≡ true) e v) in (ltb-true s b.limits.sources both.0, both.1)
 
--- no number is in no spans
-pub in_none : (spans : Spans) (n : ℕ) → spans.count ≡ 0 → is_in spans n ≡ false
-in_none spans n e = subst (λ count. list_any (λ span. nat_le span.first n && nat_le n span.last) (take count spans.spans) ≡ false) (sym e) refl
-
-nothing_out : (n : ℕ) → sum_below (λ s. 0 - 0) n ≡ 0
-nothing_out zero = refl
-nothing_out (suc n) = let before = nothing_out n in omega arith
-
 -- a machine on which nothing has happened
-pub starts : (b : Board) (states : List SourceState) → IsPlain b → states ≡ replicate b.limits.sources (record { pair = 1; forwards = 0 }) → StandsFor (record { board = b; states = states; count = 0; notices = 0 }) (start b) []
-starts b states plain items = record {
-  board = refl;
-  states = λ s l. subst (λ ws. slice_get ws s ≡ Some off) (sym items) (slice_get-get_or (replicate b.limits.sources off) s off (subst (λ k. s < k) (sym (length-replicate b.limits.sources off)) l) ∙ ap Some (get_or-replicate b.limits.sources s off off l));
+pub starts : (b : Board) (t : Kept) (states : List SourceState) → TablesStandFor t (start b) [] → states ≡ replicate b.limits.sources (record { pair = 1; forwards = 0 }) → StandsFor (record { tables = t; states = states; count = 0; notices = 0 }) (start b) []
+starts b t states tables items = record {
+  parts = record {
+    tables = tables;
+    states = λ s l. subst (λ ws. slice_get ws s ≡ Some off) (sym items) (slice_get-get_or (replicate b.limits.sources off) s off (subst (λ k. s < k) (sym (length-replicate b.limits.sources off)) l) ∙ ap Some (get_or-replicate b.limits.sources s off off l));
+    never_asserted = λ s. refl;
+    forwarded = λ s. omega arith;
+  };
   index = refl;
   notices = sym (nothing_out b.limits.sources);
-  never_asserted = λ s. refl;
-  never_routed = λ s. refl;
-  claimed = λ s l. ap not (in_none b.unclaimed s plain.unclaimed);
 }
   where
     off : SourceState
     off = record { pair = 1; forwards = 0 }
+
+    nothing_out : (n : ℕ) → sum_below (λ s. 0 - 0) n ≡ 0
+    nothing_out zero = refl
+    nothing_out (suc n) = let before = nothing_out n in omega arith

@@ -27,9 +27,11 @@ use Rattle.xv_model.specs.Scripts.{Begins, Follows}
 use Rattle.xv_model.proofs.MoreLines.{more_lines, more_entries}
 use Rattle.board_script.proofs.Reading.{board_from, more_from, IsMore}
 use Rattle.std.proofs.lemmas.List.{map-append}
-use Rattle.std.proofs.Common.{◌≤◌, ◌<◌, ◌+◌, Bool, true, false, if◌then◌else◌, arith}
+use Rattle.std.proofs.Common.{◌≤◌, ◌<◌, ◌+◌, ◌*◌, arith}
 use Rattle.board_script.specs.declared.work.Work.{Work}
-use Rattle.board_script.specs.Working.{steps_left}
+use Rattle.board_script.specs.declared.work.Step.{Step}
+use Rattle.board_script.specs.declared.work.Step.TheVariants.{First, Second, Over}
+use Rattle.board_script.specs.Working.{steps_from, steps_left}
 
 -- the lines of an account are those of a beginning, and then those of the entries after it
 entries_text-part : (z : Start) (h part : List Entry) → entries_text z (part ++ h) ≡ entries_text z h ++ part_text z h part
@@ -188,9 +190,10 @@ stopped b i i1 left left1 m w w1 w2 k k1 k2 TooLong s0 s s' f0 f f' e0 e l n r h
 }
 
 -- a work line makes at most as many entries as it has bytes
-pub at_most_given : (work : Work) (count' count given given' : ℕ) → count' ≤ count + steps_left work → count ≤ given → given < given' → count' ≤ given'
-at_most_given work count' count given given' a b c = by work.made a
+pub at_most_given : (work : Work) (count' count given given' : ℕ) → count' ≤ count + steps_left work → count ≤ 2 * given → given < given' → count' ≤ 2 * given'
+at_most_given work count' count given given' a b c = by work.at a
   where
-    by : (made : Bool) → count' ≤ count + (if made then 0 else 1) → count' ≤ given'
-    by true a = omega arith
-    by false a = omega arith
+    by : (step : Step) → count' ≤ count + steps_from step → count' ≤ 2 * given'
+    by First a = omega arith
+    by Second a = omega arith
+    by Over a = omega arith

@@ -10,6 +10,7 @@ use Rattle.xv_model.specs.Scripts.{Follows, IsBeginning}
 use Rattle.xv_model.proofs.Beginnings.{none, beginning_text}
 use Rattle.xv_model.proofs.OneAccount.{one_account}
 use Rattle.xv_model.proofs.TriggerLaws.{numbered_in_order, each_accounted, comes_again}
+use Rattle.xv_model.proofs.RouteLaws.{routed_in_order, once_forwarded, enters_once}
 use Rattle.board_script.proofs.Reading.{board_from}
 use Rattle.board_script.specs.declared.stage.Stage.TheVariants.{Work as AtWork}
 use Rattle.xv_io.specs.Gathered.{Puts}
@@ -97,21 +98,21 @@ account_prefix b i (Some xs) w k k1 work g is f l p = subst (λ script. (h : Lis
 
 -- the report was not put whole
 pub report_failed : (b : Board) (i : Input) (left : Option (List ℕ)) (m : Machine) (w w1 w2 : List ℕ) (k k1 k2 k3 : Option (List ℕ)) → Puts w k w1 k1 (header_text b) → HasRunTo b i left m w1 k1 w2 k2 (Accepted b) →
-    ((h : List Entry) → StandsFor m (start m.board) h → AppendsPrefix k2 k3 (w2 ++ report_text (start m.board) h)) → FaultsOnBoard i left w k k3
+    ((h : List Entry) → StandsFor m (start m.tables.board) h → AppendsPrefix k2 k3 (w2 ++ report_text (start m.tables.board) h)) → FaultsOnBoard i left w k k3
 report_failed b i left m w w1 w2 k k1 k2 k3 p r report =
     let h = r.account in
     let st = r.ran.stands in
-    let stands : StandsFor m (start m.board) h = subst (λ b. StandsFor m (start b) h) (sym st.board) st in
-    let reported : AppendsPrefix k2 k3 (w2 ++ report_text (start b) h) = subst (λ b. AppendsPrefix k2 k3 (w2 ++ report_text (start b) h)) st.board (report h stands) in
+    let stands : StandsFor m (start m.tables.board) h = subst (λ b. StandsFor m (start b) h) (sym st.parts.tables.board) st in
+    let reported : AppendsPrefix k2 k3 (w2 ++ report_text (start b) h) = subst (λ b. AppendsPrefix k2 k3 (w2 ++ report_text (start b) h)) st.parts.tables.board (report h stands) in
     let entries : Puts w k w2 k2 (header_text b ++ entries_text (start b) h) = puts_both w w1 w2 k k1 k2 (header_text b) (entries_text (start b) h) p r.ran.puts in
     account_prefix b i left w k k3 r.work h r.is_script r.ran.follows r.ran.legal (prefix_after_put w w2 k k2 k3 (header_text b ++ entries_text (start b) h) (report_text (start b) h) entries reported)
 
 -- the last piece was not written whole
 pub flush_of_account_failed : (b : Board) (i : Input) (left : Option (List ℕ)) (m : Machine) (w w1 w2 w3 : List ℕ) (k k1 k2 k3 k4 : Option (List ℕ)) → Puts w k w1 k1 (header_text b) → HasRunTo b i left m w1 k1 w2 k2 (Accepted b) →
-    ((h : List Entry) → StandsFor m (start m.board) h → Puts w2 k2 w3 k3 (report_text (start m.board) h)) → AppendsPrefix k3 k4 w3 → FaultsOnBoard i left w k k4
+    ((h : List Entry) → StandsFor m (start m.tables.board) h → Puts w2 k2 w3 k3 (report_text (start m.tables.board) h)) → AppendsPrefix k3 k4 w3 → FaultsOnBoard i left w k k4
 flush_of_account_failed b i left m w w1 w2 w3 k k1 k2 k3 k4 p r report f =
-    report_failed b i left m w w1 w2 k k1 k2 k4 p r (λ h st. subst (λ v. AppendsPrefix k2 k4 (w2 ++ v)) (append-nil (report_text (start m.board) h))
-    (prefix_after_put w2 w3 k2 k3 k4 (report_text (start m.board) h) [] (report h st) (subst (AppendsPrefix k3 k4) (sym (append-nil w3)) f)))
+    report_failed b i left m w w1 w2 k k1 k2 k4 p r (λ h st. subst (λ v. AppendsPrefix k2 k4 (w2 ++ v)) (append-nil (report_text (start m.tables.board) h))
+    (prefix_after_put w2 w3 k2 k3 k4 (report_text (start m.tables.board) h) [] (report h st) (subst (AppendsPrefix k3 k4) (sym (append-nil w3)) f)))
 
 -- the run of a board stopped
 pub stopped_on_board : (stop : Stop) (b : Board) (i : Input) (left : Option (List ℕ)) (m : Machine) (w w1 w2 : List ℕ) (k k1 k2 : Option (List ℕ)) (s s' f0 f f' : ℕ) → i.parser.stage ≡ AtWork b → f0 ≤ f → Puts w k w1 k1 (header_text b) → StopsAtWork stop b i left m w1 k1 w2 k2 s s' f f' → StopsOnBoard stop b i left w k w2 k2 s s' f0 f'
@@ -122,12 +123,12 @@ stopped_on_board TooLong b i left m w w1 w2 k k1 k2 s s' f0 f f' e l p h = told_
 
 -- all of a board's script has run, and its account was written
 pub told_all : (b : Board) (i : Input) (left : Option (List ℕ)) (m : Machine) (w w1 w2 w3 : List ℕ) (k k1 k2 k3 k4 : Option (List ℕ)) → Puts w k w1 k1 (header_text b) → HasRunTo b i left m w1 k1 w2 k2 (Accepted b) →
-    ((h : List Entry) → StandsFor m (start m.board) h → Puts w2 k2 w3 k3 (report_text (start m.board) h)) → Appends k3 k4 w3 → HasToldAll b i left w k [] k4
+    ((h : List Entry) → StandsFor m (start m.tables.board) h → Puts w2 k2 w3 k3 (report_text (start m.tables.board) h)) → Appends k3 k4 w3 → HasToldAll b i left w k [] k4
 told_all b i left m w w1 w2 w3 k k1 k2 k3 k4 p r report flushed =
     let h = r.account in
     let st = r.ran.stands in
-    let stands : StandsFor m (start m.board) h = subst (λ b. StandsFor m (start b) h) (sym st.board) st in
-    let reported : Puts w2 k2 w3 k3 (report_text (start b) h) = subst (λ b. Puts w2 k2 w3 k3 (report_text (start b) h)) st.board (report h stands) in
+    let stands : StandsFor m (start m.tables.board) h = subst (λ b. StandsFor m (start b) h) (sym st.parts.tables.board) st in
+    let reported : Puts w2 k2 w3 k3 (report_text (start b) h) = subst (λ b. Puts w2 k2 w3 k3 (report_text (start b) h)) st.parts.tables.board (report h stands) in
     let entries : Puts w k w2 k2 (header_text b ++ entries_text (start b) h) = puts_both w w1 w2 k k1 k2 (header_text b) (entries_text (start b) h) p r.ran.puts in
     record {
       work = r.work;
@@ -173,6 +174,9 @@ account_written b i i1 left left1 w k k1 k2 n g p t = record {
   numbered = numbered_in_order b t.account t.legal;
   accounted = each_accounted b t.account t.legal;
   come_again = comes_again b t.account t.legal;
+  routed_in_order = routed_in_order b t.account t.legal;
+  once_forwarded = once_forwarded b t.account t.legal;
+  enter_once = enters_once b t.account t.legal;
   written = puts_all k k2 (account_text b t.account) (after_nothing w [] k k1 k2 (account_text b t.account) p t.puts);
 }
 

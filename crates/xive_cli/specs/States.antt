@@ -30,3 +30,8 @@ outcome_of o w = answer_by (pq_row o false false w.pair) w.pair w.forwards
 abbrev pub forwarded_in : Outcome → ℕ
 forwarded_in (out.Pq old new forward) = if forward == 0 then 0 else 1
 forwarded_in _ = 0
+
+-- how many notices an outcome consumes
+abbrev pub consumed_in : Outcome → ℕ
+consumed_in (out.Routed k routed) = 1
+consumed_in _ = 0

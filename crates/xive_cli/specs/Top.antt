@@ -11,6 +11,7 @@ use Rattle.xv_model.specs.Start.{start}
 use Rattle.xv_model.specs.Legal.{IsLegal}
 use Rattle.xv_model.specs.Scripts.{Follows}
 use Rattle.xv_model.specs.Triggers.{AreNumbered, AreAccounted, ComeAgain}
+use Rattle.xv_model.specs.Entering.{RoutesAreNumbered, RoutesAreForwarded, EntersOnce}
 use Rattle.xv_model.specs.Text.{header_text, entries_text, account_text}
 use Rattle.board_script.specs.declared.faults.ScriptFault.{ScriptFault}
 use Rattle.board_script.specs.Script.{Script, Accepted, Refused as Rejected, TooLong as Exceeds, SoFar, WorkLine, line_for, script_of, board_in}
@@ -54,7 +55,7 @@ abbrev pub HasHeader : Option (List ℕ) → Type 0
 HasHeader None = ⊤
 HasHeader (Some bytes) = IsSome (board_in (script_of bytes))
 
--- the known bytes are a script of a board and work lines, and what was appended is the text of that board and of an account that follows the lines and is legal from the board's start record; the forwards, triggers and coalesced triggers of this account are as the laws say
+-- the known bytes are a script of a board and work lines, and what was appended is the text of that board and of an account that follows the lines and is legal from the board's start record; the forwards, triggers, coalesced triggers and routes of this account, and what these write, are as the laws say
 pub record WritesAccount (bytes held held' : Option (List ℕ)) : Type 0 where
   pub board : Board
   pub work : List WorkLine
@@ -65,6 +66,9 @@ pub record WritesAccount (bytes held held' : Option (List ℕ)) : Type 0 where
   pub numbered : AreNumbered board account
   pub accounted : AreAccounted board account
   pub come_again : ComeAgain board account
+  pub routed_in_order : RoutesAreNumbered board account
+  pub once_forwarded : RoutesAreForwarded board account
+  pub enter_once : EntersOnce board account
   pub written : Appends held held' (account_text board account)
 
 -- a line of the known bytes is refused, and what was appended is what the lines before it give, and the refusal

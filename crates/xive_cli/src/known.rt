@@ -8,16 +8,14 @@ impl Known for Machine {
 
     ghost knows = { StandsFor };
 
-    ghost sources = { λ m. m.board.limits.sources };
+    ghost sources = { λ m. m.tables.board.limits.sources };
 
     fn out(&self, s: u32) -> u64 {
-        self.source(s).forwards
+        self.source(s).forwards.saturating_sub(self.routes(s))
     }
 
     fn initialised(&self, s: u32) -> bool {
-        // The board has no ranges, so each of its sources is claimed.
-        let _ = s;
-        true
+        self.initialised(s)
     }
 
     fn pq(&self, s: u32) -> u8 {

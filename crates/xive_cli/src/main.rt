@@ -1,6 +1,7 @@
 //! The program: it reads a board script on standard input, and writes its account on standard output.
 #![tactic(auto)]
 
+mod answering;
 mod command;
 mod input;
 mod known;

@@ -4,7 +4,7 @@ ghost use Rattle.std.specs.Prelude.{◌≡◌, ◌≤◌, ◌++◌, [], OnOk, On
 ghost use Rattle.xv_io.specs.Faults.{HasRisen, AppendsPrefix};
 ghost use Rattle.xv_io.specs.Gathered.{Puts};
 
-use crate::printer::Text;
+use crate::printer::text::Text;
 use arrayvec::ArrayVec;
 use xv_io::{Failed, Sink, Writer};
 

@@ -73,10 +73,10 @@ fn make_entry<K: Sink>(
     actor: u32,
     op: &Op,
 ) -> Result<Outcome, Failed>
-    requires op { IsTrue (valid machine.old.board op.now) }
+    requires op { IsTrue (valid machine.old.tables.board op.now) }
     requires count { machine.old.count < 2 ^ 62 }
     ensures makes { IfOk result (λ outcome. Makes machine.old machine.new (record { actor = actor; op = op.now; outcome = outcome }) output.old.writer (K.held sink.old) output.new.writer (K.held sink.new)) }
-    ensures board { machine.new.board ≡ machine.old.board }
+    ensures board { machine.new.tables.board ≡ machine.old.tables.board }
     ensures count { machine.new.count ≡ machine.old.count + 1 }
     ensures fails { OnErr result (FailsAt machine.old actor op.now output.old.writer (K.held sink.old) (K.held sink.new)) }
     ensures failed { OnErr result (HasRisen (K.faults sink.old) (K.faults sink.new)) }
@@ -100,10 +100,10 @@ fn run_line<K: Sink>(
     actor: u32,
     work: Work,
 ) -> Result<(), Failed>
-    requires work { IsWork machine.old.board actor work }
+    requires work { IsWork machine.old.tables.board actor work }
     requires room { machine.old.count + steps_left work ≤ 2 ^ 62 }
     ensures runs { OnOk result (RunsLine (record { actor = actor; work = work }) machine.old machine.new output.old.writer (K.held sink.old) output.new.writer (K.held sink.new)) }
-    ensures board { machine.new.board ≡ machine.old.board }
+    ensures board { machine.new.tables.board ≡ machine.old.tables.board }
     ensures few { machine.new.count ≤ machine.old.count + steps_left work }
     ensures fails { OnErr result (FailsIn (record { actor = actor; work = work }) machine.old output.old.writer (K.held sink.old) (K.held sink.new)) }
     ensures failed { OnErr result (HasRisen (K.faults sink.old) (K.faults sink.new)) }
@@ -128,12 +128,12 @@ pub fn run_work<S: Source, K: Sink>(
     output: &mut Output,
     sink: &mut K,
 ) -> Result<(), Stop>
-    requires stage { input.old.parser.stage ≡ AtWork machine.old.board }
+    requires stage { input.old.parser.stage ≡ AtWork machine.old.tables.board }
     requires ended { input.old.reader.ended ≡ true → IsAtEnd (S.left source.old) }
     requires given { input.old.reader.given ≤ 16777216 }
-    requires stands { StandsFor machine.old (start machine.old.board) [] }
-    ensures done { OnOk result (HasRunTo machine.old.board input.old (S.left source.old) machine.new output.old.writer (K.held sink.old) output.new.writer (K.held sink.new) (Accepted machine.old.board)) }
-    ensures stop { IfErr result (λ stop. StopsAtWork stop machine.old.board input.old (S.left source.old) machine.new output.old.writer (K.held sink.old) output.new.writer (K.held sink.new) (S.faults source.old) (S.faults source.new) (K.faults sink.old) (K.faults sink.new)) }
+    requires stands { StandsFor machine.old (start machine.old.tables.board) [] }
+    ensures done { OnOk result (HasRunTo machine.old.tables.board input.old (S.left source.old) machine.new output.old.writer (K.held sink.old) output.new.writer (K.held sink.new) (Accepted machine.old.tables.board)) }
+    ensures stop { IfErr result (λ stop. StopsAtWork stop machine.old.tables.board input.old (S.left source.old) machine.new output.old.writer (K.held sink.old) output.new.writer (K.held sink.new) (S.faults source.old) (S.faults source.new) (K.faults sink.old) (K.faults sink.new)) }
     ensures source_count { S.faults source.old ≤ S.faults source.new }
     ensures sink_count { K.faults sink.old ≤ K.faults sink.new }
 {

@@ -3,7 +3,7 @@
 ghost use Rattle.std.specs.Prelude.{◌≡◌, ◌<◌, IsTrue, false};
 ghost use Rattle.xv_model.specs.PqTable.{pq_row};
 ghost use Rattle.xv_model.specs.Validity.{valid_pq};
-ghost use Rattle.xv_model.specs.Text.{HasPairs};
+ghost use Rattle.xv_model.specs.Text.{HasText};
 ghost use Rattle.xive_cli.specs.States.{IsInRange, outcome_of, state_after};
 
 use xv_model::operations::PqOp;
@@ -81,7 +81,7 @@ pub fn apply(state: &mut SourceState, op: PqOp) -> Outcome
     ensures outcome { result ≡ outcome_of op state.old }
     ensures state { state.new ≡ state_after op state.old }
     ensures in_range { IsInRange state.new }
-    ensures pairs { HasPairs result }
+    ensures text { HasText result }
 {
     let old = state.pair;
     let cell = cell_for(op, old);

@@ -17,7 +17,8 @@ use crate::command::is_run;
 use crate::input::Input;
 use crate::machine::Machine;
 use crate::output::Output;
-use crate::printer::{add_header, add_refusal, add_too_long};
+use crate::printer::header::add_header;
+use crate::printer::refusal::{add_refusal, add_too_long};
 use crate::report::put_report;
 use crate::run::{read_header, run_work};
 use crate::stop::Stop;
@@ -36,12 +37,12 @@ fn run_board<S: Source, K: Sink>(
     output: &mut Output,
     sink: &mut K,
 ) -> Result<(), Stop>
-    requires stage { input.old.parser.stage ≡ AtWork machine.old.board }
+    requires stage { input.old.parser.stage ≡ AtWork machine.old.tables.board }
     requires ended { input.old.reader.ended ≡ true → IsAtEnd (S.left source.old) }
     requires given { input.old.reader.given ≤ 16777216 }
-    requires stands { StandsFor machine.old (start machine.old.board) [] }
-    ensures done { OnOk result (HasToldAll machine.old.board input.old (S.left source.old) output.old.writer (K.held sink.old) [] (K.held sink.new)) }
-    ensures stop { IfErr result (λ stop. StopsOnBoard stop machine.old.board input.old (S.left source.old) output.old.writer (K.held sink.old) output.new.writer (K.held sink.new) (S.faults source.old) (S.faults source.new) (K.faults sink.old) (K.faults sink.new)) }
+    requires stands { StandsFor machine.old (start machine.old.tables.board) [] }
+    ensures done { OnOk result (HasToldAll machine.old.tables.board input.old (S.left source.old) output.old.writer (K.held sink.old) [] (K.held sink.new)) }
+    ensures stop { IfErr result (λ stop. StopsOnBoard stop machine.old.tables.board input.old (S.left source.old) output.old.writer (K.held sink.old) output.new.writer (K.held sink.new) (S.faults source.old) (S.faults source.new) (K.faults sink.old) (K.faults sink.new)) }
     ensures source_count { S.faults source.old ≤ S.faults source.new }
     ensures sink_count { K.faults sink.old ≤ K.faults sink.new }
 {

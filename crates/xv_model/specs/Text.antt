@@ -207,10 +207,14 @@ rest_text b =
     ++ codes "\nactors " ++ decimal b.limits.actors
     ++ codes "\nesb " ++ pages_text b ++ codes "\n"
 
+-- the line of a span
+abbrev pub range_line : List ℕ → Span → List ℕ
+range_line name span = name ++ decimal span.first ++ codes " " ++ decimal span.last ++ codes "\n"
+
 -- a line for each of some spans
 abbrev pub ranges_text : List ℕ → List Span → List ℕ
 ranges_text name [] = []
-ranges_text name (span ∷ more) = name ++ decimal span.first ++ codes " " ++ decimal span.last ++ codes "\n" ++ ranges_text name more
+ranges_text name (span ∷ more) = range_line name span ++ ranges_text name more
 
 abbrev pub spans_text : List ℕ → Spans → List ℕ
 spans_text name spans = ranges_text name (take spans.count spans.spans)

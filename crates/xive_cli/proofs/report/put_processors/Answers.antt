@@ -12,7 +12,7 @@ use Rattle.xive_cli.proofs.report.put_processors.Goals as goal
 pub loop-v-preserved : goal.loop-v-preserved
 loop-v-preserved g c =
     let e = c.in_ok-put.ensures {u = tt} in
-    let b = c.args.machine.now.board in
+    let b = c.args.machine.now.tables.board in
     record {
       puts =
           one_more_text (processor_line (start b)) c.loop-v.v c.args.output.now.writer c.loop-v.output.writer c.put.new.self.writer (g.K.Sink.held c.args.sink.now) (g.K.Sink.held c.loop-v.sink) (g.K.Sink.held c.put.new.sink)
@@ -25,7 +25,7 @@ loop-v-preserved g c =
 
 pub returns-in_err-put-clause-err : goal.returns-in_err-put-clause-err
 returns-in_err-put-clause-err g c = on_err_anyway c.from_residual.result (
-    let b = c.args.machine.now.board in
+    let b = c.args.machine.now.tables.board in
     let v = c.loop-v.v in
     let k1 = g.K.Sink.held c.loop-v.sink in
     let k2 = g.K.Sink.held c.put.new.sink in

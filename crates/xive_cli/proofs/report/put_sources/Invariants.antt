@@ -8,7 +8,7 @@ use Rattle.xive_cli.proofs.report.put_sources.Given as goal
 
 abbrev pub invariant-loop-s : goal.invariant-loop-s
 invariant-loop-s g l = record {
-  puts : (h : List Entry) → StandsFor l.machine (start l.machine.board) h →
-      Puts l.fn.output.writer (g.K.Sink.held l.fn.sink) l.output.writer (g.K.Sink.held l.sink) (texts_below (source_line (start l.machine.board) h) l.s);
+  puts : (h : List Entry) → StandsFor l.machine (start l.machine.tables.board) h →
+      Puts l.fn.output.writer (g.K.Sink.held l.fn.sink) l.output.writer (g.K.Sink.held l.sink) (texts_below (source_line (start l.machine.tables.board) h) l.s);
   count : g.K.Sink.faults l.fn.sink ≤ g.K.Sink.faults l.sink;
 }

@@ -1,5 +1,5 @@
 use Rattle.std.proofs.Common.{append_assoc}
-use Rattle.xive_cli.proofs.printer.add_counts.Goals as goal
+use Rattle.xive_cli.proofs.printer.header.add_counts.Goals as goal
 
 pub returns-clause-items : goal.returns-clause-items
 returns-clause-items c =
