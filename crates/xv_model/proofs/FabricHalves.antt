@@ -11,22 +11,21 @@ use Rattle.xv_model.specs.declared.outcomes.Routed.TheVariants.{NoSource, Masked
 use Rattle.xv_model.specs.declared.outcomes.Outcome.{Outcome}
 use Rattle.xv_model.specs.declared.outcomes.Outcome.TheVariants as out
 use Rattle.xv_model.specs.declared.entries.Entry.{Entry}
-use Rattle.xv_model.specs.declared.messages.Message.{Message}
 use Rattle.xv_model.specs.declared.board.Board.{Board}
 use Rattle.xv_model.specs.Start.{Start}
 use Rattle.xv_model.specs.Kinds.{WordAccess, access_of, is_quiet, is_fabric, run_of}
 use Rattle.xv_model.specs.PqTable.{trigger_row}
 use Rattle.xv_model.specs.Notices.{routes, outstanding}
 use Rattle.xv_model.specs.Flags.{is_valid}
-use Rattle.xv_model.specs.Assignments.{SourceConfig, source_config, source_config_in, assigned_by, assignment}
-use Rattle.xv_model.specs.Descriptors.{Configuration, configuration_in, config_at, config_by, end_config, since_config, until_config}
+use Rattle.xv_model.specs.Assignments.{source_config, source_config_in, assigned_by, assignment}
+use Rattle.xv_model.specs.Descriptors.{configuration_in, config_at, config_by, end_config, since_config, until_config}
 use Rattle.xv_model.specs.EventStates.{first_state, ran_at, asks_state, esn, ese}
 use Rattle.xv_model.specs.Written.{wrote_in, payload_of, entered, written, written_count}
 use Rattle.xv_model.specs.Reading.{taken_count}
 use Rattle.xv_model.specs.Flight.{origin_of, made_by, messages_by, flight}
 use Rattle.xv_model.specs.Routing.{most_messages, write_by, next_by, end_pass, routed_by, route_outcome}
-use Rattle.xv_model.specs.Hypercalls.{source_config_code, bare_reply, h_parameter, h_p2, h_p3, h_p4, h_success, hcall_reply, is_target}
-use Rattle.xv_model.specs.Legal.{word_answer, fabric_answer, legal}
+use Rattle.xv_model.specs.Hypercalls.{bare_reply, h_parameter, h_p2, h_p3, h_p4, h_success, hcall_reply, is_target}
+use Rattle.xv_model.specs.Legal.{fabric_answer, legal}
 use Rattle.xv_model.specs.Halves.{fabric_of}
 use Rattle.xv_model.proofs.HalvesLemmas.{half, routes-half}
 

@@ -1,9 +1,7 @@
 -- What becomes of notices in a legal account.
-use Rattle.std.proofs.Common.{ℕ, suc, ◌≡◌, ◌==◌, ◌+◌, ◌-◌, ◌≤◌, Bool, true, false, not, if◌then◌else◌, ◌&&◌, List, [], ◌∷◌, ◌++◌, length, Option, Some, None, refl, sym, ◌∙◌, ap, subst, arith, append_assoc, append-nil}
+use Rattle.std.proofs.Common.{ℕ, ◌≡◌, ◌==◌, ◌+◌, ◌≤◌, Bool, true, false, not, if◌then◌else◌, ◌&&◌, List, [], ◌∷◌, ◌++◌, length, Some, None, refl, sym, ◌∙◌, ap, subst, arith, append_assoc, append-nil}
 use Rattle.std.proofs.lemmas.Bool.Decides.{nat_tests}
 use Rattle.std.specs.Option.{option_map_or}
-use Rattle.xv_model.specs.declared.assignments.Assignment.{Assignment}
-use Rattle.xv_model.specs.declared.operations.EndConfig.{EndConfig}
 use Rattle.xv_model.specs.declared.operations.Op.{Op}
 use Rattle.xv_model.specs.declared.operations.Op.TheVariants as op
 use Rattle.xv_model.specs.declared.outcomes.Wrote.{Wrote}
@@ -17,7 +15,6 @@ use Rattle.xv_model.specs.declared.entries.Entry.{Entry}
 use Rattle.xv_model.specs.declared.board.Board.{Board}
 use Rattle.xv_model.specs.Start.{Start, start}
 use Rattle.xv_model.specs.Kinds.{run_of}
-use Rattle.xv_model.specs.Pairs.{touch_of, touch_at}
 use Rattle.xv_model.specs.Notices.{forwards, route_in, routes, outstanding}
 use Rattle.xv_model.specs.Flags.{is_valid, enqueues}
 use Rattle.xv_model.specs.Assignments.{assignment}
@@ -29,7 +26,7 @@ use Rattle.xv_model.specs.Flight.{flight}
 use Rattle.xv_model.specs.Routing.{most_messages, next_by, routed_by, route_outcome}
 use Rattle.xv_model.specs.Triggers.{down_from}
 use Rattle.xv_model.specs.Legal.{IsLegal, IsNext, legal}
-use Rattle.xv_model.specs.Entering.{route_number, route_numbers, Due, due_by, due_of, due_at, RoutedInOrder, RoutedOnceForwarded, EachEntersOnce}
+use Rattle.xv_model.specs.Entering.{route_number, route_numbers, due_of, due_at, RoutedInOrder, RoutedOnceForwarded, EachEntersOnce}
 use Rattle.xv_model.proofs.OneAccount.{legal_before}
 use Rattle.xv_model.proofs.TriggerLaws.{down_from-one, down_from-zero}
 
