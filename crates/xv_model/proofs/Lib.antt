@@ -1,7 +1,9 @@
 pub mod Beginnings
+pub mod FabricHalves
 pub mod HalvesLemmas
 pub mod MoreLines
 pub mod OneAccount
+pub mod RouteLaws
 pub mod SmallPairs
 pub mod Sums
 pub mod Touches

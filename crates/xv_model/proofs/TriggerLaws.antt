@@ -22,11 +22,11 @@ use Rattle.xv_model.proofs.Touches.{cell_at, legal_touch, touch_is, word_outcome
 use Rattle.xv_model.proofs.SmallPairs.{pq-below}
 
 -- one more number
-down_from-one : (n : ℕ) → down_from (1 + n) ≡ (n + 1) ∷ down_from n
+pub down_from-one : (n : ℕ) → down_from (1 + n) ≡ (n + 1) ∷ down_from n
 down_from-one n = let e : 1 + n ≡ suc n = omega arith in let f : n + 1 ≡ suc n = omega arith in rw (e, f) refl
 
 -- no more number
-down_from-zero : (n : ℕ) → down_from (0 + n) ≡ down_from n
+pub down_from-zero : (n : ℕ) → down_from (0 + n) ≡ down_from n
 down_from-zero n = ap down_from (omega arith)
 
 -- what a touch adds to the numbers, by whether it forwards

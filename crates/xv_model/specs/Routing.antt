@@ -1,5 +1,5 @@
 -- What becomes of a notice (QEMU's ppc-xive, "routing"; hw/intc/xive.c, xive_router_notify and xive_router_end_notify).
-use Rattle.std.specs.Prelude.{ℕ, ◌==◌, ◌+◌, ◌||◌, Bool, not, if◌then◌else◌, List, length, Option, Some, None}
+use Rattle.std.specs.Prelude.{ℕ, ◌==◌, ◌+◌, ◌||◌, not, if◌then◌else◌, List, length, Option, Some, None}
 use Rattle.xv_model.specs.declared.assignments.Assignment.{Assignment}
 use Rattle.xv_model.specs.declared.operations.EndConfig.{EndConfig}
 use Rattle.xv_model.specs.declared.outcomes.Wrote.{Wrote}

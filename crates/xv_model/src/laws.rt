@@ -1,6 +1,7 @@
 //! Laws of every legal account. The functions do nothing; their contracts are the laws.
 
 ghost use Rattle.xv_model.specs.Scripts.{OneAccount};
+ghost use Rattle.xv_model.specs.Entering.{EachEntersOnce, RoutedInOrder, RoutedOnceForwarded};
 ghost use Rattle.xv_model.specs.Triggers.{CoalescedComesAgain, EachTriggerAccounted, NumberedInOrder};
 
 /// Of lines and the accounts that follow them.
@@ -13,4 +14,15 @@ pub fn triggers()
     ensures numbered_in_order { NumberedInOrder }
     ensures each_accounted { EachTriggerAccounted }
     ensures comes_again { CoalescedComesAgain }
+{}
+
+/// Of the notices of a source.
+pub fn notices()
+    ensures routed_in_order { RoutedInOrder }
+    ensures once_forwarded { RoutedOnceForwarded }
+{}
+
+/// Of what is routed to an END.
+pub fn entries()
+    ensures enters_once { EachEntersOnce }
 {}

@@ -1,0 +1,258 @@
+-- What the fabric's definitions say of an account they say of its fabric entries alone.
+use Rattle.std.proofs.Common.{ℕ, ◌≡◌, ◌==◌, ◌+◌, ◌&&◌, ◌≢◌, nat_lt, Bool, true, false, not, cond, if◌then◌else◌, List, [], ◌∷◌, ◌++◌, length, filter, Option, Some, None, refl, sym, ◌∙◌, ap, arith, append-nil, length-append}
+use Rattle.std.specs.Option.{option_map_or}
+use Rattle.xv_model.specs.declared.assignments.Assignment.{Assignment}
+use Rattle.xv_model.specs.declared.operations.EndConfig.{EndConfig}
+use Rattle.xv_model.specs.declared.operations.Op.{Op}
+use Rattle.xv_model.specs.declared.operations.Op.TheVariants as op
+use Rattle.xv_model.specs.declared.outcomes.EndRun.{EndRun}
+use Rattle.xv_model.specs.declared.outcomes.EndRun.TheVariants as run
+use Rattle.xv_model.specs.declared.outcomes.Routed.TheVariants.{NoSource, Masked, Run}
+use Rattle.xv_model.specs.declared.outcomes.Outcome.{Outcome}
+use Rattle.xv_model.specs.declared.outcomes.Outcome.TheVariants as out
+use Rattle.xv_model.specs.declared.entries.Entry.{Entry}
+use Rattle.xv_model.specs.declared.board.Board.{Board}
+use Rattle.xv_model.specs.Start.{Start}
+use Rattle.xv_model.specs.Kinds.{WordAccess, access_of, is_quiet, is_fabric, run_of}
+use Rattle.xv_model.specs.PqTable.{trigger_row}
+use Rattle.xv_model.specs.Notices.{routes, outstanding}
+use Rattle.xv_model.specs.Flags.{is_valid}
+use Rattle.xv_model.specs.Assignments.{source_config, source_config_in, assigned_by, assignment}
+use Rattle.xv_model.specs.Descriptors.{configuration_in, config_at, config_by, end_config, since_config, until_config}
+use Rattle.xv_model.specs.EventStates.{first_state, ran_at, asks_state, esn, ese}
+use Rattle.xv_model.specs.Written.{wrote_in, payload_of, entered, written, written_count}
+use Rattle.xv_model.specs.Reading.{taken_count}
+use Rattle.xv_model.specs.Flight.{origin_of, made_by, messages_by, flight}
+use Rattle.xv_model.specs.Routing.{most_messages, write_by, next_by, end_pass, routed_by, route_outcome}
+use Rattle.xv_model.specs.Hypercalls.{bare_reply, h_parameter, h_p2, h_p3, h_p4, h_success, hcall_reply, is_target}
+use Rattle.xv_model.specs.Legal.{fabric_answer, legal}
+use Rattle.xv_model.specs.Halves.{fabric_of}
+use Rattle.xv_model.proofs.HalvesLemmas.{half, routes-half}
+
+-- an operation that isn't the fabric's configures no source
+no_source_config : (b : Board) (o : Op) (u : Outcome) → is_fabric b o ≡ false → source_config_in o u ≡ None
+no_source_config b (op.Hcall number args) u other = cc
+no_source_config b _ u other = refl
+
+-- an operation that isn't the fabric's configures no END
+no_configuration : (b : Board) (o : Op) (u : Outcome) → is_fabric b o ≡ false → configuration_in o u ≡ None
+no_configuration b (op.EndSet e c) u other = cc
+no_configuration b _ u other = refl
+
+-- an operation that isn't the fabric's runs no END
+no_run : (b : Board) (o : Op) (u : Outcome) → is_fabric b o ≡ false → run_of o u ≡ None
+no_run b (op.Route s) u other = cc
+no_run b (op.Take i) u other = cc
+no_run b _ u other = refl
+
+-- an operation that isn't the fabric's is no route
+no_origin : (b : Board) (o : Op) → is_fabric b o ≡ false → origin_of o ≡ None
+no_origin b (op.Route s) other = cc
+no_origin b _ other = refl
+
+-- an entry that isn't the fabric's configures no END
+no_config_by : (b : Board) (e : ℕ) (x : Entry) → is_fabric b x.op ≡ false → config_by e x ≡ None
+no_config_by b e x other = ap (config_at e) (no_configuration b x.op x.outcome other)
+
+-- an entry that isn't the fabric's leaves the assignment of s
+pub assignment-skips : (z : Start) (s : ℕ) (x : Entry) (h : List Entry) → is_fabric z.board x.op ≡ false → assignment z (x ∷ h) s ≡ assignment z h s
+assignment-skips z s x h other = rw (no_source_config z.board x.op x.outcome other) refl
+
+-- an entry that isn't the fabric's leaves the configuration of e
+pub end_config-skips : (z : Start) (e : ℕ) (x : Entry) (h : List Entry) → is_fabric z.board x.op ≡ false → end_config z (x ∷ h) e ≡ end_config z h e
+end_config-skips z e x h other = rw (no_config_by z.board e x other) refl
+
+-- an entry that isn't the fabric's leaves a number that goes on until e is configured
+pub until_config-skips : (z : Start) (n e : ℕ) (x : Entry) (h : List Entry) → is_fabric z.board x.op ≡ false → until_config n (x ∷ h) e ≡ until_config n h e
+until_config-skips z n e x h other = rw (no_config_by z.board e x other) refl
+
+-- an entry that isn't the fabric's is one more since the configuration of e
+pub since_config-skips : (z : Start) (e : ℕ) (x : Entry) (h : List Entry) → is_fabric z.board x.op ≡ false → since_config (x ∷ h) e ≡ x ∷ since_config h e
+since_config-skips z e x h other = rw (no_config_by z.board e x other) refl
+
+-- an entry that isn't the fabric's leaves the state of notifications of e
+pub esn-skips : (z : Start) (e : ℕ) (x : Entry) (h : List Entry) → is_fabric z.board x.op ≡ false → esn z (x ∷ h) e ≡ esn z h e
+esn-skips z e x h other = rw (no_config_by z.board e x other, no_run z.board x.op x.outcome other) refl
+
+-- an entry that isn't the fabric's leaves the state of escalations of e
+pub ese-skips : (z : Start) (e : ℕ) (x : Entry) (h : List Entry) → is_fabric z.board x.op ≡ false → ese z (x ∷ h) e ≡ ese z h e
+ese-skips z e x h other = rw (no_config_by z.board e x other) refl
+
+-- an entry that isn't the fabric's leaves what was written for e
+pub written-skips : (z : Start) (e : ℕ) (x : Entry) (h : List Entry) → is_fabric z.board x.op ≡ false → written z (x ∷ h) e ≡ written z h e
+written-skips z e x h other = rw (no_config_by z.board e x other, no_run z.board x.op x.outcome other) (append-nil (written z h e))
+
+-- an entry that isn't the fabric's leaves how many entries were written for e
+pub written_count-skips : (z : Start) (e : ℕ) (x : Entry) (h : List Entry) → is_fabric z.board x.op ≡ false → written_count z (x ∷ h) e ≡ written_count z h e
+written_count-skips z e x h other = λ i. length (written-skips z e x h other i) + until_config-skips z (z.written_count e) e x h other i
+
+-- an entry that isn't the fabric's leaves how many entries of e were taken
+pub taken_count-skips : (z : Start) (e : ℕ) (x : Entry) (h : List Entry) → is_fabric z.board x.op ≡ false → taken_count z (x ∷ h) e ≡ taken_count z h e
+taken_count-skips z e x h other = until_config-skips z (z.taken_count e) e x h other
+
+-- an entry that isn't the fabric's leaves the messages in flight
+pub flight-skips : (z : Start) (x : Entry) (h : List Entry) → is_fabric z.board x.op ≡ false → flight z (x ∷ h) ≡ flight z h
+flight-skips z x h other = rw (no_origin z.board x.op other) (append-nil (flight z h))
+
+-- the assignment of s is that of the fabric's entries
+pub assignment-half : (z : Start) (s : ℕ) (h : List Entry) → assignment z (fabric_of z.board h) s ≡ assignment z h s
+assignment-half z s = half (λ x. is_fabric z.board x.op) (λ h. assignment z h s) (λ x h. ap (λ before. option_map_or (λ c. if c.source == s then assigned_by c before else before) (source_config_in x.op x.outcome) before)) (assignment-skips z s)
+
+-- the configuration of e is that of the fabric's entries
+pub end_config-half : (z : Start) (e : ℕ) (h : List Entry) → end_config z (fabric_of z.board h) e ≡ end_config z h e
+end_config-half z e = half (λ x. is_fabric z.board x.op) (λ h. end_config z h e) (λ x h. ap (option_map_or (λ c. c) (config_by e x))) (end_config-skips z e)
+
+-- a number that goes on until e is configured is that of the fabric's entries
+pub until_config-half : (z : Start) (n e : ℕ) (h : List Entry) → until_config n (fabric_of z.board h) e ≡ until_config n h e
+until_config-half z n e = half (λ x. is_fabric z.board x.op) (λ h. until_config n h e) (λ x h. ap (option_map_or (λ c. 0) (config_by e x))) (until_config-skips z n e)
+
+-- the entries that are kept of none or of one more, by whether it is kept
+kept : (p : Entry → Bool) (m : Option EndConfig) (x : Entry) (g h : List Entry) (b : Bool) → p x ≡ b → (b ≡ false → m ≡ None) → g ≡ filter p h →
+    cond b (option_map_or (λ c. []) m (x ∷ g)) g ≡ filter p (option_map_or (λ c. []) m (x ∷ h))
+kept p (Some c) x g h true is w e = refl
+kept p (Some c) x g h false is w e = let k : Some c ≡ None = w refl in absurd cc
+kept p None x g h true is w e = rw is (ap (λ v. x ∷ v) e)
+kept p None x g h false is w e = rw is e
+
+-- one more entry, by whether it is the fabric's
+since_config_more : (z : Start) (e : ℕ) (x : Entry) (h : List Entry) (b : Bool) → is_fabric z.board x.op ≡ b → since_config (fabric_of z.board h) e ≡ fabric_of z.board (since_config h e) →
+    since_config (cond b (x ∷ fabric_of z.board h) (fabric_of z.board h)) e ≡ fabric_of z.board (since_config (x ∷ h) e)
+since_config_more z e x h true is so_far = kept (λ y. is_fabric z.board y.op) (config_by e x) x (since_config (fabric_of z.board h) e) (since_config h e) true is (λ n. cc) so_far
+since_config_more z e x h false is so_far = kept (λ y. is_fabric z.board y.op) (config_by e x) x (since_config (fabric_of z.board h) e) (since_config h e) false is (λ n. no_config_by z.board e x is) so_far
+
+-- the fabric's entries since a configuration of e are those of the entries since then
+pub since_config-half : (z : Start) (e : ℕ) (h : List Entry) → since_config (fabric_of z.board h) e ≡ fabric_of z.board (since_config h e)
+since_config-half z e [] = refl
+since_config-half z e (x ∷ h) = since_config_more z e x h (is_fabric z.board x.op) refl (since_config-half z e h)
+
+-- the state of notifications of e is that of the fabric's entries
+pub esn-half : (z : Start) (e : ℕ) (h : List Entry) → esn z (fabric_of z.board h) e ≡ esn z h e
+esn-half z e = half (λ x. is_fabric z.board x.op) (λ h. esn z h e) (λ x h so_far. λ i. option_map_or first_state (config_by e x) (if ran_at e (run_of x.op x.outcome) && asks_state (end_config-half z e h i) then (trigger_row (so_far i)).pair else so_far i)) (esn-skips z e)
+
+-- the state of escalations of e is that of the fabric's entries
+pub ese-half : (z : Start) (e : ℕ) (h : List Entry) → ese z (fabric_of z.board h) e ≡ ese z h e
+ese-half z e = half (λ x. is_fabric z.board x.op) (λ h. ese z h e) (λ x h. ap (option_map_or first_state (config_by e x))) (ese-skips z e)
+
+-- what an operation routes after the fabric's entries is what it routes after the account
+payload_of-half : (z : Start) (h : List Entry) (o : Op) → payload_of z (fabric_of z.board h) o ≡ payload_of z h o
+payload_of-half z h (op.Route s) = ap (λ a. a.eisn ∷ []) (assignment-half z s h)
+payload_of-half z h _ = refl
+
+-- what was written for e is what the fabric's entries wrote
+pub written-half : (z : Start) (e : ℕ) (h : List Entry) → written z (fabric_of z.board h) e ≡ written z h e
+written-half z e = half (λ x. is_fabric z.board x.op) (λ h. written z h e) (λ x h so_far. λ i. option_map_or (λ c. []) (config_by e x) (so_far i ++ option_map_or (λ end. if end == e then payload_of-half z h x.op i else []) (wrote_in (run_of x.op x.outcome)) [])) (written-skips z e)
+
+-- how many entries were written for e is how many the fabric's entries wrote
+pub written_count-half : (z : Start) (e : ℕ) (h : List Entry) → written_count z (fabric_of z.board h) e ≡ written_count z h e
+written_count-half z e h = λ i. length (written-half z e h i) + until_config-half z (z.written_count e) e h i
+
+-- how many entries of e were taken is how many the fabric's entries took
+pub taken_count-half : (z : Start) (e : ℕ) (h : List Entry) → taken_count z (fabric_of z.board h) e ≡ taken_count z h e
+taken_count-half z e h = until_config-half z (z.taken_count e) e h
+
+-- the message that a run makes after the fabric's entries is the one that it makes after the account
+made_by-half : (z : Start) (h : List Entry) (m : Option ℕ) (r : Option EndRun) → made_by z (fabric_of z.board h) m r ≡ made_by z h m r
+made_by-half z h (Some s) (Some (run.Ran e wrote next)) = ap (λ c. messages_by next e c s) (end_config-half z e h)
+made_by-half z h (Some s) _ = refl
+made_by-half z h None r = refl
+
+-- the messages in flight are those of the fabric's entries
+pub flight-half : (z : Start) (h : List Entry) → flight z (fabric_of z.board h) ≡ flight z h
+flight-half z = half (λ x. is_fabric z.board x.op) (flight z) (λ x h so_far. λ i. so_far i ++ made_by-half z h (origin_of x.op) (run_of x.op x.outcome) i) (flight-skips z)
+
+-- a run of e after the fabric's entries is the one after the account
+pub end_pass-half : (z : Start) (e payload : ℕ) (h : List Entry) → end_pass z (fabric_of z.board h) e payload ≡ end_pass z h e payload
+end_pass-half z e payload h = λ i. if is_valid (end_config-half z e h i) then run.Ran e (write_by (end_config-half z e h i) (written_count-half z e h i) payload) (next_by (end_config-half z e h i) (esn-half z e h i)) else run.NoEnd e
+
+-- what becomes of a notice after the fabric's entries is what becomes of it after the account
+pub routed_by-half : (z : Start) (a : Assignment) (h : List Entry) → routed_by z (fabric_of z.board h) a ≡ routed_by z h a
+routed_by-half z a h = λ i. if not a.valid then NoSource else (if a.masked then Masked else Run (end_pass-half z a.end a.eisn h i))
+
+-- what a hypercall replies after the fabric's entries is what it replies after the account
+pub hcall_reply-half : (z : Start) (args : List ℕ) (h : List Entry) → hcall_reply z (fabric_of z.board h) args ≡ hcall_reply z h args
+hcall_reply-half z args h =
+    let c = source_config args in
+    λ i. bare_reply (
+    if not (nat_lt c.flags 4) then h_parameter
+    else (if not (nat_lt c.source z.board.limits.sources && (assignment-half z c.source h i).valid) then h_p2
+    else (if c.priority == 255 then h_success
+    else (if not (nat_lt c.priority 7) then h_p4
+    else (if not (is_target z h c.target) then h_p3 else h_success)))))
+
+-- what says the same of an account as of its fabric entries says the same of accounts with the same ones
+pub same_fabric : {R : Type 0} (b : Board) (d : List Entry → R) (g h : List Entry) → ((f : List Entry) → d (fabric_of b f) ≡ d f) → fabric_of b g ≡ fabric_of b h → d g ≡ d h
+same_fabric b d g h says same = sym (says g) ∙ ap d same ∙ says h
+
+-- a route of s answers the same after accounts with the same fabric entries and the same count of notices of s
+pub route_half : (z : Start) (g h : List Entry) (s : ℕ) → fabric_of z.board g ≡ fabric_of z.board h → outstanding z g s ≡ outstanding z h s → route_outcome z g s ≡ route_outcome z h s
+route_half z g h s same notices =
+    let full = same_fabric z.board (flight z) g h (flight-half z) same in
+    let number = same_fabric z.board (λ f. routes z f s) g h (routes-half z s) same in
+    let routed = ap (routed_by z g) (same_fabric z.board (λ f. assignment z f s) g h (assignment-half z s) same) ∙ same_fabric z.board (λ f. routed_by z f (assignment z h s)) g h (routed_by-half z (assignment z h s)) same in
+    λ i. if notices i == 0 then out.NoNotice else (if length (full i) == most_messages then out.BusFull else out.Routed (number i + 1) (routed i))
+
+-- an operation of the fabric answers the same after accounts with the same fabric entries, where a route's count of notices is the same
+fabric_answer_half : (z : Start) (g h : List Entry) (o : Op) → fabric_of z.board g ≡ fabric_of z.board h → ((s : ℕ) → o ≡ op.Route s → outstanding z g s ≡ outstanding z h s) → fabric_answer z g o ≡ fabric_answer z h o
+fabric_answer_half z g h (op.Route s) same notices = route_half z g h s same (notices s refl)
+fabric_answer_half z g h (op.Hcall number args) same notices = ap out.Reply (same_fabric z.board (λ f. hcall_reply z f args) g h (hcall_reply-half z args) same)
+fabric_answer_half z g h _ same notices = refl
+
+-- an operation of the fabric is on no word
+no_access : (m : Option WordAccess) (other : Bool) → option_map_or (λ a. false) m other ≡ true → m ≡ None
+no_access None other is = refl
+no_access (Some a) other is = cc
+
+-- the legal outcome of an operation of the fabric is the same after accounts with the same fabric entries, where a route's count of notices is the same
+pub legal_fabric_half : (z : Start) (g h : List Entry) (o : Op) → is_fabric z.board o ≡ true → fabric_of z.board g ≡ fabric_of z.board h → ((s : ℕ) → o ≡ op.Route s → outstanding z g s ≡ outstanding z h s) → legal z g o ≡ legal z h o
+legal_fabric_half z g h o is same notices = rw (no_access (access_of z.board o) (not (is_quiet o)) is) (fabric_answer_half z g h o same notices)
+
+-- the legal outcome of an operation of the fabric that isn't a route depends on the fabric's entries alone
+pub fabric_half : (z : Start) (g h : List Entry) (o : Op) → is_fabric z.board o ≡ true → ((s : ℕ) → o ≢ op.Route s) → fabric_of z.board g ≡ fabric_of z.board h → legal z g o ≡ legal z h o
+fabric_half z g h o is no_route same = legal_fabric_half z g h o is same (λ s e. absurd (no_route s e))
+
+-- whether a route wrote into the queue of e
+abbrev pub wrote_for : ℕ → Op → Outcome → Bool
+wrote_for e (op.Route s) u = option_map_or (λ end. end == e) (wrote_in (run_of (op.Route s) u)) false
+wrote_for e _ u = false
+
+-- how many of the entries are routes that wrote into the queue of e
+abbrev pub writes : ℕ → List Entry → ℕ
+writes e [] = 0
+writes e (x ∷ h) = (if wrote_for e x.op x.outcome then 1 else 0) + writes e h
+
+-- a payload or none, by a test
+one_or_none : (b : Bool) (n : ℕ) → length (if b then n ∷ [] else []) ≡ (if b then 1 else 0)
+one_or_none true n = refl
+one_or_none false n = refl
+
+-- what a route writes, by the END that it wrote for
+writes_by : (e n : ℕ) (m : Option ℕ) → length (option_map_or (λ end. if end == e then n ∷ [] else []) m []) ≡ (if option_map_or (λ end. end == e) m false then 1 else 0)
+writes_by e n None = refl
+writes_by e n (Some end) = one_or_none (end == e) n
+
+-- nothing, by a test
+nothing_if : (b : Bool) (ns : List ℕ) → ns ≡ [] → length (if b then ns else []) ≡ 0
+nothing_if true ns e = ap length e
+nothing_if false ns e = refl
+
+-- nothing, by the END that it was written for
+nothing_by : (e : ℕ) (m : Option ℕ) (ns : List ℕ) → ns ≡ [] → length (option_map_or (λ end. if end == e then ns else []) m []) ≡ 0
+nothing_by e None ns none = refl
+nothing_by e (Some end) ns none = nothing_if (end == e) ns none
+
+-- an operation and its outcome write one payload for e, or none
+entered-length : (z : Start) (h : List Entry) (e : ℕ) (o : Op) (u : Outcome) → length (option_map_or (λ end. if end == e then payload_of z h o else []) (wrote_in (run_of o u)) []) ≡ (if wrote_for e o u then 1 else 0)
+entered-length z h e (op.Route s) u = writes_by e _ (wrote_in (run_of (op.Route s) u))
+entered-length z h e (op.Take i) u = nothing_by e (wrote_in (run_of (op.Take i) u)) [] refl
+entered-length z h e _ u = refl
+
+-- one more entry, by whether it configures e
+counts_more : (e : ℕ) (m : Option EndConfig) (ns more : List ℕ) (x : Entry) (since : List Entry) → length ns ≡ writes e since → length more ≡ (if wrote_for e x.op x.outcome then 1 else 0) →
+    length (option_map_or (λ c. []) m (ns ++ more)) ≡ writes e (option_map_or (λ c. []) m (x ∷ since))
+counts_more e (Some c) ns more x since so_far one = refl
+counts_more e None ns more x since so_far one = omega (arith, length-append ns more, one, so_far)
+
+-- what was written since the last configuration of e counts the routes since then that wrote for e
+pub written-counts : (z : Start) (h : List Entry) (e : ℕ) → length (written z h e) ≡ writes e (since_config h e)
+written-counts z [] e = refl
+written-counts z (x ∷ h) e = counts_more e (config_by e x) (written z h e) (entered z h x e) x (since_config h e) (written-counts z h e) (entered-length z h e x.op x.outcome)

@@ -1,0 +1,162 @@
+-- What becomes of notices in a legal account.
+use Rattle.std.proofs.Common.{ℕ, ◌≡◌, ◌==◌, ◌+◌, ◌≤◌, Bool, true, false, not, if◌then◌else◌, ◌&&◌, List, [], ◌∷◌, ◌++◌, length, Some, None, refl, sym, ◌∙◌, ap, subst, arith, append_assoc, append-nil}
+use Rattle.std.proofs.lemmas.Bool.Decides.{nat_tests}
+use Rattle.std.specs.Option.{option_map_or}
+use Rattle.xv_model.specs.declared.operations.Op.{Op}
+use Rattle.xv_model.specs.declared.operations.Op.TheVariants as op
+use Rattle.xv_model.specs.declared.outcomes.Wrote.{Wrote}
+use Rattle.xv_model.specs.declared.outcomes.Then.{Then}
+use Rattle.xv_model.specs.declared.outcomes.EndRun.TheVariants as run
+use Rattle.xv_model.specs.declared.outcomes.Routed.{Routed}
+use Rattle.xv_model.specs.declared.outcomes.Routed.TheVariants.{NoSource, Masked, Run}
+use Rattle.xv_model.specs.declared.outcomes.Outcome.{Outcome}
+use Rattle.xv_model.specs.declared.outcomes.Outcome.TheVariants as out
+use Rattle.xv_model.specs.declared.entries.Entry.{Entry}
+use Rattle.xv_model.specs.declared.board.Board.{Board}
+use Rattle.xv_model.specs.Start.{Start, start}
+use Rattle.xv_model.specs.Kinds.{run_of}
+use Rattle.xv_model.specs.Notices.{forwards, route_in, routes, outstanding}
+use Rattle.xv_model.specs.Flags.{is_valid, enqueues}
+use Rattle.xv_model.specs.Assignments.{assignment}
+use Rattle.xv_model.specs.Descriptors.{end_config}
+use Rattle.xv_model.specs.EventStates.{esn}
+use Rattle.xv_model.specs.Written.{wrote_in, payload_of, entered, written, written_count}
+use Rattle.xv_model.specs.Memory.{wrote_at}
+use Rattle.xv_model.specs.Flight.{flight}
+use Rattle.xv_model.specs.Routing.{most_messages, next_by, routed_by, route_outcome}
+use Rattle.xv_model.specs.Triggers.{down_from}
+use Rattle.xv_model.specs.Legal.{IsLegal, IsNext, legal}
+use Rattle.xv_model.specs.Entering.{route_number, route_numbers, due_of, due_at, RoutedInOrder, RoutedOnceForwarded, EachEntersOnce}
+use Rattle.xv_model.proofs.OneAccount.{legal_before}
+use Rattle.xv_model.proofs.TriggerLaws.{down_from-one, down_from-zero}
+
+-- what a route of s answers in a legal account
+pub route_answer : (z : Start) (h : List Entry) (x : Entry) (s : ℕ) → IsNext z h x → x.op ≡ op.Route s → x.outcome ≡ route_outcome z h s
+route_answer z h x s n e = n.outcome ∙ ap (legal z h) e
+
+-- a route that routed a notice, by its two tests: neither holds, and the number is this
+routed_number_by : (a b : Bool) (n k : ℕ) (d r : Routed) → (if a then out.NoNotice else (if b then out.BusFull else out.Routed n d)) ≡ out.Routed k r → (a ≡ false) × (b ≡ false) × (k ≡ n)
+routed_number_by true b n k d r e = cc
+routed_number_by false true n k d r e = cc
+routed_number_by false false n k d r e = (refl, refl, cc)
+
+-- a route of s that routed a notice: one was out, and its number is one more than the routes before
+pub routed_number : (z : Start) (h : List Entry) (s k : ℕ) (r : Routed) → route_outcome z h s ≡ out.Routed k r → (1 ≤ outstanding z h s) × (k ≡ routes z h s + 1)
+routed_number z h s k r e =
+    let t = routed_number_by (outstanding z h s == 0) (length (flight z h) == most_messages) (routes z h s + 1) k _ r e in
+    let some = t.0 in
+    (grind (arith, nat_tests), t.2)
+
+-- the same of an entry of a legal account
+pub legal_routed : (z : Start) (h : List Entry) (x : Entry) (s k : ℕ) (r : Routed) → IsNext z h x → x.op ≡ op.Route s → x.outcome ≡ out.Routed k r → (1 ≤ outstanding z h s) × (k ≡ routes z h s + 1)
+legal_routed z h x s k r n e f = routed_number z h s k r (sym (route_answer z h x s n e) ∙ f)
+
+-- what a route of r adds to the numbers of s, by whether r is s
+route_adds_by : (same : Bool) (n k : ℕ) (ns : List ℕ) → (same ≡ true → k ≡ n + 1) → ns ≡ down_from n → (if same then k ∷ [] else []) ++ ns ≡ down_from ((if same then 1 else 0) + n)
+route_adds_by true n k ns w e = ap (λ v. v ∷ ns) (w refl) ∙ ap (λ v. (n + 1) ∷ v) e ∙ sym (down_from-one n)
+route_adds_by false n k ns w e = e ∙ sym (down_from-zero n)
+
+-- what one more entry adds to the numbers of s
+route_adds : (s n : ℕ) (o : Op) (u : Outcome) (ns : List ℕ) → ((k : ℕ) (r : Routed) → o ≡ op.Route s → u ≡ out.Routed k r → k ≡ n + 1) → ns ≡ down_from n →
+    route_number s o u ++ ns ≡ down_from (option_map_or (λ r. if r == s then 1 else 0) (route_in o u) 0 + n)
+route_adds s n (op.Route q) (out.Routed k r) ns w e = route_adds_by (q == s) n k ns (λ same. w k r (grind (arith, nat_tests)) refl) e
+route_adds s n (op.Route q) _ ns w e = e ∙ sym (down_from-zero n)
+route_adds s n _ u ns w e = e ∙ sym (down_from-zero n)
+
+-- the numbers of the routes go on from those of the start record
+pub routes_numbered : (z : Start) (h : List Entry) (s : ℕ) → IsLegal z h → route_numbers h s ++ down_from (z.routes s) ≡ down_from (routes z h s)
+routes_numbered z [] s l = refl
+routes_numbered z (x ∷ h) s l =
+    append_assoc (route_number s x.op x.outcome) (route_numbers h s) (down_from (z.routes s))
+    ∙ route_adds s (routes z h s) x.op x.outcome _ (λ k r e f. (legal_routed z h x s k r l.1 e f).1) (routes_numbered z h s l.0)
+
+-- the routes of a source have the numbers 1, 2, 3 and so on, in order
+pub routed_in_order : RoutedInOrder
+routed_in_order b h l s = sym (append-nil _) ∙ routes_numbered (start b) h s l
+
+-- one more route of s stays within the forwards, by whether it is of s
+within_by : (same : Bool) (n m : ℕ) → (same ≡ true → n + 1 ≤ m) → n ≤ m → (if same then 1 else 0) + n ≤ m
+within_by true n m w l = let v = w refl in omega arith
+within_by false n m w l = omega arith
+
+-- one more entry stays within the forwards
+within : (s n m : ℕ) (o : Op) (u : Outcome) → ((k : ℕ) (r : Routed) → o ≡ op.Route s → u ≡ out.Routed k r → n + 1 ≤ m) → n ≤ m → option_map_or (λ r. if r == s then 1 else 0) (route_in o u) 0 + n ≤ m
+within s n m (op.Route q) (out.Routed k r) w l = within_by (q == s) n m (λ same. w k r (grind (arith, nat_tests)) refl) l
+within s n m (op.Route q) _ w l = omega arith
+within s n m _ u w l = omega arith
+
+-- the routes of a source are at most its forwards, where they are so in the start record
+pub routes_within_from : (z : Start) (h : List Entry) (s : ℕ) → IsLegal z h → z.routes s ≤ z.forwards s → routes z h s ≤ forwards z h s
+routes_within_from z [] s l w = w
+routes_within_from z (x ∷ h) s l w =
+    let before : routes z h s ≤ forwards z h s = routes_within_from z h s l.0 w in
+    let now = within s (routes z h s) (forwards z h s) x.op x.outcome (λ k r e f. let one = (legal_routed z h x s k r l.1 e f).0 in omega arith) before in
+    omega arith
+
+-- the routes of a source are at most its forwards in a legal account of a board
+pub routes_within : (b : Board) (h : List Entry) → IsLegal (start b) h → (s : ℕ) → routes (start b) h s ≤ forwards (start b) h s
+routes_within b h l s = routes_within_from (start b) h s l (omega arith)
+
+-- an entry that has a route number of s is a route of s that routed a notice
+pub route_number-is : (s k : ℕ) (o : Op) (u : Outcome) → route_number s o u ≡ k ∷ [] → (r : Routed) × (o ≡ op.Route s) × (u ≡ out.Routed k r)
+route_number-is s k (op.Route q) (out.Routed j r) e = (r, grind (arith, nat_tests), grind (arith, nat_tests))
+route_number-is s k (op.Route q) _ e = cc
+route_number-is s k _ u e = cc
+
+-- the number of a route in a legal account is at most the forwards before it
+pub route_forwarded : (z : Start) (h : List Entry) (x : Entry) (s k : ℕ) → IsNext z h x → route_number s x.op x.outcome ≡ k ∷ [] → k ≤ forwards z h s
+route_forwarded z h x s k n e =
+    let is = route_number-is s k x.op x.outcome e in
+    let f = legal_routed z h x s k is.0 n is.1 is.2 in
+    let one = f.0 in
+    let number = f.1 in
+    omega arith
+
+-- the number of each route of a source is at most that of its forwards before it
+pub once_forwarded : RoutedOnceForwarded
+once_forwarded b h l before after x s k is e = route_forwarded (start b) before x s k (legal_before (start b) after (x ∷ before) (subst (IsLegal (start b)) is l)).1 e
+
+-- what a route's run writes for e is what is due there, by the four tests
+writes_due_by : (s e k end eisn : ℕ) (valid masked v q : Bool) (w : Wrote) (t : Then) →
+    option_map_or (λ n. if n == e then eisn ∷ [] else []) (wrote_in (run_of (op.Route s) (out.Routed k (if not valid then NoSource else (if masked then Masked else Run (if v then run.Ran end (if q then Some w else None) t else run.NoEnd end)))))) []
+    ≡ due_at e (if valid && (not masked && (v && q)) then Some (record { end = end; payload = eisn }) else None)
+writes_due_by s e k end eisn false masked v q w t = refl
+writes_due_by s e k end eisn true true v q w t = refl
+writes_due_by s e k end eisn true false false q w t = refl
+writes_due_by s e k end eisn true false true false w t = refl
+writes_due_by s e k end eisn true false true true w t = refl
+
+-- what a route writes for e is what is due there, by its two tests
+enters_by : (z : Start) (h : List Entry) (s e : ℕ) (a b : Bool) →
+    let o = if a then out.NoNotice else (if b then out.BusFull else out.Routed (routes z h s + 1) (routed_by z h (assignment z h s))) in
+    option_map_or (λ n. if n == e then (assignment z h s).eisn ∷ [] else []) (wrote_in (run_of (op.Route s) o)) [] ≡ due_at e (due_of z h s o)
+enters_by z h s e true b = refl
+enters_by z h s e false true = refl
+enters_by z h s e false false =
+    let a = assignment z h s in
+    let c = end_config z h a.end in
+    writes_due_by s e (routes z h s + 1) a.end a.eisn a.valid a.masked (is_valid c) (enqueues c) (wrote_at c (c.start + written_count z h a.end) a.eisn) (next_by c (esn z h a.end))
+
+-- what an operation and its outcome write into the queue of e
+abbrev entered_by : Start → List Entry → ℕ → Op → Outcome → List ℕ
+entered_by z h e o u = option_map_or (λ end. if end == e then payload_of z h o else []) (wrote_in (run_of o u)) []
+
+-- a route in a legal account writes for e what is due there
+pub route_enters : (z : Start) (h : List Entry) (x : Entry) (s e : ℕ) → IsNext z h x → x.op ≡ op.Route s → entered z h x e ≡ due_at e (due_of z h s x.outcome)
+route_enters z h x s e n is =
+    let answer = route_answer z h x s n is in
+    ap (λ o. entered_by z h e o x.outcome) is ∙ ap (entered_by z h e (op.Route s)) answer
+    ∙ enters_by z h s e (outstanding z h s == 0) (length (flight z h) == most_messages)
+    ∙ ap (λ u. due_at e (due_of z h s u)) (sym answer)
+
+-- a route configures nothing
+route_no_config : (z : Start) (h : List Entry) (x : Entry) (s e : ℕ) → x.op ≡ op.Route s → written z (x ∷ h) e ≡ written z h e ++ entered z h x e
+route_no_config z h x s e is = rw is refl
+
+-- after a route in a legal account what was written is what was, and then what is due
+pub route_written : (z : Start) (h : List Entry) (x : Entry) (s e : ℕ) → IsNext z h x → x.op ≡ op.Route s → written z (x ∷ h) e ≡ written z h e ++ due_at e (due_of z h s x.outcome)
+route_written z h x s e n is = route_no_config z h x s e is ∙ ap (λ v. written z h e ++ v) (route_enters z h x s e n is)
+
+-- what a route has to write enters its queue once
+pub each_enters_once : EachEntersOnce
+each_enters_once b h l before after x s e whole is = route_written (start b) before x s e (legal_before (start b) after (x ∷ before) (subst (IsLegal (start b)) whole l)).1 is
