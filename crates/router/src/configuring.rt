@@ -1,13 +1,14 @@
 //! Configurations of ENDs and sources.
 
-ghost use Rattle.std.specs.Prelude.{◌≡◌, ◌<◌, ◌*◌, ◌∷◌, ℕ, List, true};
+ghost use Rattle.std.specs.Prelude.{◌≡◌, ◌≢◌, ◌<◌, ◌+◌, ◌*◌, ◌^◌, ◌∷◌, ℕ, List, true};
 ghost use Rattle.xv_model.specs.declared.entries.Entry.{Entry};
 ghost use Rattle.xv_model.specs.declared.operations.Op.TheVariants.{EndSet, Hcall};
 ghost use Rattle.xv_model.specs.declared.outcomes.Outcome.TheVariants.{Fine, Reply};
 ghost use Rattle.xv_model.specs.Start.{Start};
-ghost use Rattle.xv_model.specs.Assignments.{set_source_config as number_of_call};
-ghost use Rattle.xv_model.specs.Hypercalls.{hcall_reply};
+ghost use Rattle.xv_model.specs.Assignments.{set_source_config as number_of_call, source_config, assigned_by};
+ghost use Rattle.xv_model.specs.Hypercalls.{h_success, is_source, is_target, source_config_code, hcall_reply};
 ghost use Rattle.xv_model.specs.Validity.{valid_config};
+ghost use Rattle.router.specs.Accepted.{IsAccepted};
 ghost use Rattle.router.specs.Standing.{StandsFor};
 
 use crate::ends::EndRecord;
@@ -33,17 +34,26 @@ const MASKED_OFF: u64 = 0xff;
 
 impl Tables {
     /// Whether a number is that of a source with a valid assignment.
-    fn is_source(&self, s: u64) -> bool {
+    fn is_source(&self, s: u64) -> bool
+        ensures value { (z : Start) (h : List Entry) → StandsFor self.now z h → result ≡ is_source z h s }
+        ensures source { result ≡ true → s < self.now.board.limits.sources }
+    {
         s < self.board.limits.sources as u64 && self.assignments[s as usize].valid
     }
 
     /// Whether a number is that of a connected processor.
-    fn is_target(&self, v: u64) -> bool {
+    fn is_target(&self, v: u64) -> bool
+        ensures value { (z : Start) (h : List Entry) → StandsFor self.now z h → result ≡ is_target z h v }
+        ensures target { result ≡ true → v < self.now.board.limits.processors }
+    {
         v < self.board.limits.processors as u64 && !self.board.unconnected.has(v as u32)
     }
 
     /// The code of SET_SOURCE_CONFIG.
-    fn source_config_code(&self, args: &[u64; 5]) -> i64 {
+    fn source_config_code(&self, args: &[u64; 5]) -> i64
+        ensures value { (z : Start) (h : List Entry) → StandsFor self.now z h → result ≡ source_config_code z h (source_config args.now) }
+        ensures accepted { result ≡ h_success → IsAccepted self.now.board (source_config args.now) }
+    {
         let [flags, source, target, priority, _] = *args;
         if flags > 3 {
             return H_PARAMETER;
@@ -99,26 +109,7 @@ impl Tables {
     {
         let code = self.source_config_code(args);
         if code == H_SUCCESS {
-            let assignment = &mut self.assignments[args[1] as usize];
-            *assignment = if args[3] == MASKED_OFF {
-                Assignment {
-                    valid: true,
-                    masked: true,
-                    end: 0,
-                    eisn: 0,
-                }
-            } else {
-                Assignment {
-                    valid: true,
-                    masked: args[0] & 1 != 0,
-                    end: (8 * args[2] + args[3]) as u32,
-                    eisn: if args[0] & 2 != 0 {
-                        (args[4] % (1 << 31)) as u32
-                    } else {
-                        assignment.eisn
-                    },
-                }
-            };
+            assign(&mut self.assignments[args[1] as usize], args);
         }
         HReply {
             code,
@@ -126,4 +117,31 @@ impl Tables {
             out: [0; 4],
         }
     }
+}
+
+/// Assigns what accepted arguments say.
+fn assign(assignment: &mut Assignment, args: &[u64; 5])
+    requires accepted { (source_config args.now).priority ≢ 255 → 8 * (source_config args.now).target + (source_config args.now).priority < 2 ^ 32 }
+    ensures value { assignment.new ≡ assigned_by (source_config args.now) assignment.old }
+{
+    let [flags, _, target, priority, payload] = *args;
+    *assignment = if priority == MASKED_OFF {
+        Assignment {
+            valid: true,
+            masked: true,
+            end: 0,
+            eisn: 0,
+        }
+    } else {
+        Assignment {
+            valid: true,
+            masked: flags & 1 == 1,
+            end: (8 * target + priority) as u32,
+            eisn: if flags & 2 == 2 {
+                (payload % (1 << 31)) as u32
+            } else {
+                assignment.eisn
+            },
+        }
+    };
 }
