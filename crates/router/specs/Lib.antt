@@ -1,5 +1,6 @@
 -- What the router keeps, and what it stands for.
 pub mod Accepted
+pub mod First
 pub mod Kept
 pub mod Range
 pub mod Runs

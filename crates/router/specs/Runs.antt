@@ -10,7 +10,7 @@ use Rattle.xv_model.specs.declared.outcomes.Routed.TheVariants as routed
 use Rattle.xv_model.specs.Start.{no_config}
 use Rattle.xv_model.specs.PqTable.{trigger_row}
 use Rattle.xv_model.specs.Flags.{is_valid, enqueues}
-use Rattle.xv_model.specs.EventStates.{asks_state}
+use Rattle.xv_model.specs.EventStates.{asks_state, first_state}
 use Rattle.xv_model.specs.Routing.{next_by, write_by}
 use Rattle.xv_model.specs.Flight.{messages_by}
 use Rattle.router.specs.declared.ends.EndRecord.{EndRecord}
@@ -22,6 +22,10 @@ first_end = record { config = no_config; written = 0; taken = 0; esn = 1; ese = 
 -- what is kept of an END
 abbrev pub end_in : List EndRecord → ℕ → EndRecord
 end_in ends e = slice_index_or ends e first_end
+
+-- an END that is told this
+abbrev pub configured : EndConfig → EndRecord
+configured c = record { config = c; written = 0; taken = 0; esn = first_state c; ese = first_state c }
 
 -- an END after a run wrote into its queue, where it has one
 abbrev pub enqueued : EndRecord → EndRecord

@@ -1,21 +1,20 @@
 //! Configurations of ENDs and sources.
 
-ghost use Rattle.std.specs.Prelude.{◌≡◌, ◌≢◌, ◌<◌, ◌+◌, ◌*◌, ◌^◌, ◌∷◌, ℕ, List, true};
+ghost use Rattle.std.specs.Prelude.{◌≡◌, ◌≢◌, ◌<◌, ◌+◌, ◌*◌, ◌^◌, ◌∷◌, ℕ, List, true, false};
 ghost use Rattle.xv_model.specs.declared.entries.Entry.{Entry};
 ghost use Rattle.xv_model.specs.declared.operations.Op.TheVariants.{EndSet, Hcall};
 ghost use Rattle.xv_model.specs.declared.outcomes.Outcome.TheVariants.{Fine, Reply};
 ghost use Rattle.xv_model.specs.Start.{Start};
-ghost use Rattle.xv_model.specs.Assignments.{set_source_config as number_of_call, source_config, assigned_by};
-ghost use Rattle.xv_model.specs.Hypercalls.{h_success, is_source, is_target, source_config_code, hcall_reply};
+ghost use Rattle.xv_model.specs.Assignments.{set_source_config as number_of_call, source_config, is_success, assigned_by};
+ghost use Rattle.xv_model.specs.Hypercalls.{is_source, is_target, source_config_code, bare_reply as bare_reply_of, hcall_reply};
 ghost use Rattle.xv_model.specs.Validity.{valid_config};
 ghost use Rattle.router.specs.Accepted.{IsAccepted};
 ghost use Rattle.router.specs.Standing.{StandsFor};
 
 use crate::ends::EndRecord;
 use crate::tables::Tables;
-use bitflags::Flags;
 use xv_model::assignments::Assignment;
-use xv_model::operations::{EndConfig, EndFlags};
+use xv_model::operations::EndConfig;
 use xv_model::outcomes::HReply;
 
 /// The codes of hypercalls.
@@ -52,7 +51,7 @@ impl Tables {
     /// The code of SET_SOURCE_CONFIG.
     fn source_config_code(&self, args: &[u64; 5]) -> i64
         ensures value { (z : Start) (h : List Entry) → StandsFor self.now z h → result ≡ source_config_code z h (source_config args.now) }
-        ensures accepted { result ≡ h_success → IsAccepted self.now.board (source_config args.now) }
+        ensures accepted { is_success result ≡ true → IsAccepted self.now.board (source_config args.now) }
     {
         let [flags, source, target, priority, _] = *args;
         if flags > 3 {
@@ -81,18 +80,7 @@ impl Tables {
         ensures board { self.new.board ≡ self.old.board }
         ensures routed { self.new.routed ≡ self.old.routed }
     {
-        let state = if config.flags.contains(EndFlags::VALID) {
-            0
-        } else {
-            1
-        };
-        self.ends[e as usize] = EndRecord {
-            config: *config,
-            written: 0,
-            taken: 0,
-            esn: state,
-            ese: state,
-        };
+        self.ends[e as usize] = EndRecord::configured(config);
     }
 
     /// The hypercall SET_SOURCE_CONFIG (0x3ac), by its arguments: flags (1 masks, 2 gives the payload), source,
@@ -103,19 +91,35 @@ impl Tables {
     pub fn set_source_config(&mut self, args: &[u64; 5]) -> HReply
         ensures reply { (z : Start) (h : List Entry) → StandsFor self.old z h → result ≡ hcall_reply z h args.now }
         ensures stands { (z : Start) (h : List Entry) (actor : ℕ) → StandsFor self.old z h → StandsFor self.new z (record { actor = actor; op = Hcall number_of_call args.now; outcome = Reply result } ∷ h) }
+        ensures refused { is_success result.code ≡ false → self.new ≡ self.old }
         ensures bare { result.outs ≡ 0 }
         ensures board { self.new.board ≡ self.old.board }
         ensures routed { self.new.routed ≡ self.old.routed }
     {
         let code = self.source_config_code(args);
-        if code == H_SUCCESS {
-            assign(&mut self.assignments[args[1] as usize], args);
+        if !is_accepted(code) {
+            return bare_reply(code);
         }
-        HReply {
-            code,
-            outs: 0,
-            out: [0; 4],
-        }
+        assign(&mut self.assignments[args[1] as usize], args);
+        bare_reply(code)
+    }
+}
+
+/// Whether a code says that a call is accepted.
+fn is_accepted(code: i64) -> bool
+    ensures { result ≡ is_success code }
+{
+    code == H_SUCCESS
+}
+
+/// A reply without outputs.
+fn bare_reply(code: i64) -> HReply
+    ensures { result ≡ bare_reply_of code }
+{
+    HReply {
+        code,
+        outs: 0,
+        out: [0; 4],
     }
 }
 

@@ -1,6 +1,6 @@
 //! Runs of ENDs: what is written into a queue, how it goes on, and the message that it makes.
 
-ghost use Rattle.std.specs.Prelude.{◌≡◌, ◌<◌, ◌≤◌, ◌^◌, ◌∷◌, ◌++◌, [], length, vec_len, vec_capacity};
+ghost use Rattle.std.specs.Prelude.{◌≡◌, ◌<◌, ◌≤◌, ◌^◌, ◌∷◌, ◌++◌, [], vec_len, vec_capacity};
 ghost use Rattle.xv_model.specs.Routing.{next_by, write_by};
 ghost use Rattle.router.specs.Range.{IsNarrow};
 ghost use Rattle.router.specs.Runs.{end_in, enqueued, notified, after_run, run_by, made_for, routed_in, ends_after, messages_after};
@@ -132,15 +132,15 @@ fn send(messages: &mut Vec<Message>, run: &EndRun, config: &EndConfig, origin: u
 }
 
 /// Deals with a notice of a source with this assignment: a run of its END, where it has one.
-pub(crate) fn deal(ends: &mut [EndRecord], messages: &mut Vec<Message>, s: u32, assignment: &Assignment) -> Routed
-    requires end { assignment.now.end < length ends.old }
-    requires queue { IsNarrow (end_in ends.old assignment.now.end).config }
-    requires written { (end_in ends.old assignment.now.end).written < 2 ^ 62 }
+pub(crate) fn deal(ends: &mut Vec<EndRecord>, messages: &mut Vec<Message>, s: u32, assignment: &Assignment) -> Routed
+    requires end { assignment.now.end < vec_len ends.old }
+    requires queue { IsNarrow (end_in ends.old.items assignment.now.end).config }
+    requires written { (end_in ends.old.items assignment.now.end).written < 2 ^ 62 }
     requires payload { assignment.now.eisn < 2 ^ 31 }
     requires room { vec_len messages.old < vec_capacity messages.old }
-    ensures routed { result ≡ routed_in ends.old assignment.now }
-    ensures ends { ends.new ≡ ends_after ends.old assignment.now }
-    ensures messages { messages.new.items ≡ messages_after s ends.old assignment.now messages.old.items }
+    ensures routed { result ≡ routed_in ends.old.items assignment.now }
+    ensures ends { ends.new.items ≡ ends_after ends.old.items assignment.now }
+    ensures messages { messages.new.items ≡ messages_after s ends.old.items assignment.now messages.old.items }
     ensures capacity { vec_capacity messages.old ≤ vec_capacity messages.new }
 {
     if !assignment.valid {
