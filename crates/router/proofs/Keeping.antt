@@ -1,19 +1,13 @@
 -- Entries that leave what the tables stand for.
-use Rattle.std.proofs.Common.{ℕ, ◌≡◌, ◌+◌, List, [], ◌∷◌, ◌++◌, length, Option, Some, None, refl, sym, ◌∙◌, ap, arith}
+use Rattle.std.proofs.Common.{ℕ, ◌≡◌, ◌+◌, List, [], ◌∷◌, ◌++◌, length, Some, sym, ◌∙◌, ap, arith}
 use Rattle.std.proofs.lemmas.List.{append-nil}
-use Rattle.std.specs.Option.{option_map_or}
-use Rattle.xv_model.specs.declared.operations.EndConfig.{EndConfig}
 use Rattle.xv_model.specs.declared.operations.PqOp.{PqOp}
 use Rattle.xv_model.specs.declared.operations.Op.TheVariants as op
-use Rattle.xv_model.specs.declared.outcomes.EndRun.{EndRun}
 use Rattle.xv_model.specs.declared.outcomes.Outcome.{Outcome}
 use Rattle.xv_model.specs.declared.outcomes.Outcome.TheVariants as out
 use Rattle.xv_model.specs.declared.entries.Entry.{Entry}
 use Rattle.xv_model.specs.Start.{Start}
-use Rattle.xv_model.specs.Kinds.{run_of}
-use Rattle.xv_model.specs.Notices.{route_in, routes}
-use Rattle.xv_model.specs.Assignments.{source_config_in}
-use Rattle.xv_model.specs.Descriptors.{end_config, configuration_in, until_config}
+use Rattle.xv_model.specs.Descriptors.{end_config, until_config}
 use Rattle.xv_model.specs.EventStates.{esn, ese}
 use Rattle.xv_model.specs.Written.{written}
 use Rattle.xv_model.specs.Flight.{flight}

@@ -1,5 +1,5 @@
 -- What stays in range.
-use Rattle.std.proofs.Common.{ℕ, ◌≡◌, ◌<◌, ◌≤◌, ◌+◌, ◌*◌, ◌==◌, Bool, true, false, if◌then◌else◌, List, length, refl, ◌∙◌, arith, slice_set, slice_index_or}
+use Rattle.std.proofs.Common.{ℕ, ◌≡◌, ◌<◌, ◌≤◌, ◌+◌, ◌*◌, ◌==◌, Bool, true, false, if◌then◌else◌, List, length, refl, ◌∙◌, arith, slice_set}
 use Rattle.std.specs.Prelude.{◌&&◌, ◌^◌, ◌%◌, nat_le, All}
 use Rattle.std.proofs.lemmas.Bool.{and_parts, eqb-true}
 use Rattle.std.proofs.lemmas.Bool.Decides.{nat_tests}
@@ -10,7 +10,7 @@ use Rattle.xv_model.specs.declared.operations.EndConfig.{EndConfig}
 use Rattle.xv_model.specs.Boards.{IsBoard}
 use Rattle.xv_model.specs.Flags.{is_valid, enqueues}
 use Rattle.xv_model.specs.PqTable.{trigger_row}
-use Rattle.xv_model.specs.EventStates.{first_state, asks_state}
+use Rattle.xv_model.specs.EventStates.{asks_state}
 use Rattle.xv_model.specs.Validity.{valid_config, has_queue, is_queue, is_queue_shift, ram_size, notifies_one, has_nothing}
 use Rattle.router.specs.declared.ends.EndRecord.{EndRecord}
 use Rattle.router.specs.Range.{IsEnd, IsNarrow, HasWrittenAtMost}

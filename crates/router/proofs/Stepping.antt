@@ -14,23 +14,22 @@ use Rattle.xv_model.specs.declared.outcomes.Then.{Then}
 use Rattle.xv_model.specs.declared.outcomes.EndRun.TheVariants.{Ran, NoEnd}
 use Rattle.xv_model.specs.declared.outcomes.Routed.{Routed}
 use Rattle.xv_model.specs.declared.outcomes.Routed.TheVariants as routed
-use Rattle.xv_model.specs.declared.outcomes.Outcome.{Outcome}
 use Rattle.xv_model.specs.declared.outcomes.Outcome.TheVariants as out
 use Rattle.xv_model.specs.declared.entries.Entry.{Entry}
 use Rattle.xv_model.specs.Start.{Start}
 use Rattle.xv_model.specs.PqTable.{trigger_row}
 use Rattle.xv_model.specs.Flags.{is_valid, enqueues}
 use Rattle.xv_model.specs.Notices.{routes, forwards}
-use Rattle.xv_model.specs.Assignments.{SourceConfig, assignment, assigned_by, source_config, is_success, set_source_config}
+use Rattle.xv_model.specs.Assignments.{assignment, assigned_by, source_config, is_success, set_source_config}
 use Rattle.xv_model.specs.Descriptors.{end_config, until_config}
 use Rattle.xv_model.specs.EventStates.{esn, ese, first_state, asks_state}
 use Rattle.xv_model.specs.Memory.{wrote_at}
 use Rattle.xv_model.specs.Written.{written, written_count, wrote_in}
 use Rattle.xv_model.specs.Flight.{flight, messages_by}
-use Rattle.xv_model.specs.Routing.{next_by, write_by, route_outcome, routed_by}
+use Rattle.xv_model.specs.Routing.{next_by, route_outcome, routed_by}
 use Rattle.router.specs.declared.ends.EndRecord.{EndRecord}
 use Rattle.router.specs.Kept.{Kept}
-use Rattle.router.specs.Runs.{first_end, end_in, configured, enqueued, notified, after_run, run_by, made_for, routed_in, ends_after, messages_after}
+use Rattle.router.specs.Runs.{first_end, end_in, configured, after_run, run_by, made_for, routed_in, ends_after, messages_after}
 use Rattle.router.specs.Standing.{StandsFor, end_of}
 use Rattle.router.proofs.Elements.{set_gives, read}
 use Rattle.router.proofs.Keeping.{nothing_entered}
@@ -70,8 +69,8 @@ configured_stands t z h e actor c st l =
       assignments = st.assignments;
       routes = λ q l. st.routes q l ∙ ap Some (omega arith);
       ends = set_gives t.ends e (8 * z.board.limits.processors) (configured c) (end_of z h) (end_of z h') st.ends (subst (λ b. e < 8 * b.limits.processors) st.board l)
-        (sym (told z h e actor e c ∙ at_same e (configured c) (end_of z h e)))
-        (λ j other. told z h e actor j c ∙ at_other e j (configured c) (end_of z h j) other);
+          (sym (told z h e actor e c ∙ at_same e (configured c) (end_of z h e)))
+          (λ j other. told z h e actor j c ∙ at_other e j (configured c) (end_of z h j) other);
       messages = st.messages ∙ sym (append-nil (flight z h));
       connected = st.connected;
     }
@@ -92,8 +91,8 @@ assigned_stands t z h args actor a r st ok l e =
     record {
       board = st.board;
       assignments = set_gives t.assignments c.source z.board.limits.sources (assigned_by c a) (assignment z h) (assignment z h') st.assignments inside
-        (ap (assigned_by c) (read t.assignments c.source z.board.limits.sources a a (assignment z h) st.assignments inside e) ∙ sym (assigned z h args actor c.source r ok ∙ at_same c.source (assigned_by c (assignment z h c.source)) (assignment z h c.source)))
-        (λ j other. assigned z h args actor j r ok ∙ at_other c.source j (assigned_by c (assignment z h j)) (assignment z h j) other);
+          (ap (assigned_by c) (read t.assignments c.source z.board.limits.sources a a (assignment z h) st.assignments inside e) ∙ sym (assigned z h args actor c.source r ok ∙ at_same c.source (assigned_by c (assignment z h c.source)) (assignment z h c.source)))
+          (λ j other. assigned z h args actor j r ok ∙ at_other c.source j (assigned_by c (assignment z h j)) (assignment z h j) other);
       routes = λ q l. st.routes q l ∙ ap Some (omega arith);
       ends = λ j l. st.ends j l ∙ ap Some (sym (nothing_entered z h j));
       messages = st.messages ∙ sym (append-nil (flight z h));
@@ -139,14 +138,14 @@ counted_in z h j same n = record { config = end_config z h j; written = n; taken
 ran : (z : Start) (h : List Entry) (s actor k e j : ℕ) (w : Wrote) (next : Then) (q : Bool) →
     end_of z (record { actor = actor; op = op.Route s; outcome = out.Routed k (routed.Run (Ran e (if q then Some w else None) next)) } ∷ h) j ≡
     (if e == j then
-      record { config = end_config z h j; written = if q then written_count z h j + 1 else written_count z h j; taken = until_config (z.taken_count j) h j; esn = if asks_state (end_config z h j) then (trigger_row (esn z h j)).pair else esn z h j; ese = ese z h j }
+    record { config = end_config z h j; written = if q then written_count z h j + 1 else written_count z h j; taken = until_config (z.taken_count j) h j; esn = if asks_state (end_config z h j) then (trigger_row (esn z h j)).pair else esn z h j; ese = ese z h j }
     else end_of z h j)
 ran z h s actor k e j w next q = ap (counted_in z h j (e == j)) (count_after (written z h j) _ (until_config (z.written_count j) h j) (e == j) q (entered_by e j (assignment z h s).eisn w next q)) ∙ by (e == j)
   where
     by : (same : Bool) → counted_in z h j same (if same then (if q then written_count z h j + 1 else written_count z h j) else written_count z h j) ≡
-      (if same then
+        (if same then
         record { config = end_config z h j; written = if q then written_count z h j + 1 else written_count z h j; taken = until_config (z.taken_count j) h j; esn = if asks_state (end_config z h j) then (trigger_row (esn z h j)).pair else esn z h j; ese = ese z h j }
-      else end_of z h j)
+        else end_of z h j)
     by true = refl
     by false = refl
 
@@ -161,8 +160,8 @@ routed_stands t z h s actor k n r ends messages st l is ends_are messages_are =
       board = st.board;
       assignments = st.assignments;
       routes = set_gives t.routes s z.board.limits.sources (k + 1) (routes z h) (routes z h') st.routes l
-        (rw (eq-eqb s s refl) (omega arith))
-        (λ j other. rw (ne_eqb s j (λ same. other (sym same))) (omega arith));
+          (rw (eq-eqb s s refl) (omega arith))
+          (λ j other. rw (ne_eqb s j (λ same. other (sym same))) (omega arith));
       ends = ends_are;
       messages = messages_are;
       connected = st.connected;
@@ -187,8 +186,8 @@ run_by_validity t z h s actor k n e p w next writes true st l is le =
     let r = routed.Run (Ran e (if writes then Some w else None) next) in
     routed_stands t z h s actor k n r _ _ st l is
     (set_gives t.ends e (8 * z.board.limits.processors) _ (end_of z h) (end_of z (record { actor = actor; op = op.Route s; outcome = out.Routed (k + 1) r } ∷ h)) st.ends le
-      (sym (ran z h s actor (k + 1) e e w next writes ∙ at_same e _ (end_of z h e)))
-      (λ j other. ran z h s actor (k + 1) e j w next writes ∙ at_other e j _ (end_of z h j) other))
+    (sym (ran z h s actor (k + 1) e e w next writes ∙ at_same e _ (end_of z h e)))
+    (λ j other. ran z h s actor (k + 1) e j w next writes ∙ at_other e j _ (end_of z h j) other))
     (ap (λ ms. ms ++ messages_by next e (end_config z h e) s) st.messages)
 run_by_validity t z h s actor k n e p w next writes false st l is le =
     let r = routed.Run (NoEnd e) in
@@ -205,8 +204,14 @@ run_stands t z h s actor k n e st l is le = run_by_validity t z h s actor k n e 
 
 -- a notice of a source with the assignment of these parts, whose END is r
 dealt : (t : Kept) (z : Start) (h : List Entry) (s actor k n : ℕ) (valid off : Bool) (e p : ℕ) (r : EndRecord) → StandsFor t z h → s < z.board.limits.sources → k ≡ routes z h s → e < 8 * z.board.limits.processors → p ≡ (assignment z h s).eisn → r ≡ end_of z h e →
-    StandsFor (record { board = t.board; assignments = t.assignments; routes = slice_set t.routes s (k + 1); ends = if valid && not off then slice_set t.ends e (after_run r) else t.ends;
-      messages = if valid && not off then t.messages ++ made_for s r.config (run_by r e p) else t.messages; routed = n }) z
+    StandsFor (record {
+      board = t.board;
+      assignments = t.assignments;
+      routes = slice_set t.routes s (k + 1);
+      ends = if valid && not off then slice_set t.ends e (after_run r) else t.ends;
+      messages = if valid && not off then t.messages ++ made_for s r.config (run_by r e p) else t.messages;
+      routed = n;
+    }) z
     (record { actor = actor; op = op.Route s; outcome = out.Routed (k + 1) (if not valid then routed.NoSource else (if off then routed.Masked else routed.Run (run_by r e p))) } ∷ h)
 dealt t z h s actor k n false off e p r st l is le same_p same_r = dropped t z h s actor k n st l is
 dealt t z h s actor k n true true e p r st l is le same_p same_r = masked t z h s actor k n st l is
@@ -226,9 +231,9 @@ pub dealt_stands : (t : Kept) (z : Start) (h : List Entry) (s actor k : ℕ) (a 
 dealt_stands t z h s actor k a st l is_k is_a le =
     let inside = subst (λ b. s < b.limits.sources) st.board l in
     dealt t z h s actor k (t.routed + 1) a.valid a.masked a.end a.eisn (end_in t.ends a.end) st inside (read t.routes s z.board.limits.sources k k (routes z h) st.routes inside is_k)
-      (subst (λ b. a.end < 8 * b.limits.processors) st.board le)
-      (ap (λ (a : Assignment). a.eisn) (read t.assignments s z.board.limits.sources a a (assignment z h) st.assignments inside is_a))
-      (end_found t z h a.end st le)
+    (subst (λ b. a.end < 8 * b.limits.processors) st.board le)
+    (ap (λ (a : Assignment). a.eisn) (read t.assignments s z.board.limits.sources a a (assignment z h) st.assignments inside is_a))
+    (end_found t z h a.end st le)
 
 routed_same : (z : Start) (h : List Entry) (a : Assignment) (r : EndRecord) → r ≡ end_of z h a.end → (if not a.valid then routed.NoSource else (if a.masked then routed.Masked else routed.Run (run_by r a.end a.eisn))) ≡ routed_by z h a
 routed_same z h a r e = ap (λ r. if not a.valid then routed.NoSource else (if a.masked then routed.Masked else routed.Run (run_by r a.end a.eisn))) e

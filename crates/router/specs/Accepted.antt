@@ -1,5 +1,5 @@
 -- Which arguments SET_SOURCE_CONFIG accepts.
-use Rattle.std.specs.Prelude.{ℕ, ◌≡◌, ◌≢◌, ◌<◌}
+use Rattle.std.specs.Prelude.{◌≢◌, ◌<◌}
 use Rattle.xv_model.specs.declared.board.Board.{Board}
 use Rattle.xv_model.specs.Assignments.{SourceConfig}
 

@@ -1,5 +1,5 @@
 -- What a run makes of what is kept of an END.
-use Rattle.std.specs.Prelude.{ℕ, ◌+◌, ◌&&◌, Bool, not, if◌then◌else◌, List, [], ◌∷◌, ◌++◌, slice_set, slice_index_or}
+use Rattle.std.specs.Prelude.{ℕ, ◌+◌, ◌&&◌, Bool, not, if◌then◌else◌, List, [], ◌++◌, slice_set, slice_index_or}
 use Rattle.xv_model.specs.declared.assignments.Assignment.{Assignment}
 use Rattle.xv_model.specs.declared.messages.Message.{Message}
 use Rattle.xv_model.specs.declared.operations.EndConfig.{EndConfig}

@@ -1,6 +1,6 @@
 //! Runs of ENDs: what is written into a queue, how it goes on, and the message that it makes.
 
-ghost use Rattle.std.specs.Prelude.{◌≡◌, ◌<◌, ◌≤◌, ◌^◌, ◌∷◌, ◌++◌, [], vec_len, vec_capacity};
+ghost use Rattle.std.specs.Prelude.{◌≡◌, ◌<◌, ◌≤◌, ◌+◌, ◌^◌, ◌∷◌, ◌++◌, [], vec_len, vec_capacity};
 ghost use Rattle.xv_model.specs.Routing.{next_by, write_by};
 ghost use Rattle.router.specs.Range.{IsNarrow};
 ghost use Rattle.router.specs.Runs.{end_in, enqueued, notified, after_run, run_by, made_for, routed_in, ends_after, messages_after};
@@ -82,6 +82,7 @@ fn run(end: &mut EndRecord, e: u32, payload: u32) -> EndRun
 fn put(messages: &mut Vec<Message>, message: Message)
     requires room { vec_len messages.old < vec_capacity messages.old }
     ensures items { messages.new.items ≡ messages.old.items ++ message ∷ [] }
+    ensures few { vec_len messages.new ≤ vec_len messages.old + 1 }
     ensures capacity { vec_capacity messages.old ≤ vec_capacity messages.new }
 {
     match messages.push(message) {
@@ -94,6 +95,7 @@ fn put(messages: &mut Vec<Message>, message: Message)
 fn send(messages: &mut Vec<Message>, run: &EndRun, config: &EndConfig, origin: u32)
     requires room { vec_len messages.old < vec_capacity messages.old }
     ensures items { messages.new.items ≡ messages.old.items ++ made_for origin config.now run.now }
+    ensures few { vec_len messages.new ≤ vec_len messages.old + 1 }
     ensures capacity { vec_capacity messages.old ≤ vec_capacity messages.new }
 {
     match *run {
@@ -132,7 +134,12 @@ fn send(messages: &mut Vec<Message>, run: &EndRun, config: &EndConfig, origin: u
 }
 
 /// Deals with a notice of a source with this assignment: a run of its END, where it has one.
-pub(crate) fn deal(ends: &mut Vec<EndRecord>, messages: &mut Vec<Message>, s: u32, assignment: &Assignment) -> Routed
+pub(crate) fn deal(
+    ends: &mut Vec<EndRecord>,
+    messages: &mut Vec<Message>,
+    s: u32,
+    assignment: &Assignment,
+) -> Routed
     requires end { assignment.now.end < vec_len ends.old }
     requires queue { IsNarrow (end_in ends.old.items assignment.now.end).config }
     requires written { (end_in ends.old.items assignment.now.end).written < 2 ^ 62 }
@@ -141,6 +148,7 @@ pub(crate) fn deal(ends: &mut Vec<EndRecord>, messages: &mut Vec<Message>, s: u3
     ensures routed { result ≡ routed_in ends.old.items assignment.now }
     ensures ends { ends.new.items ≡ ends_after ends.old.items assignment.now }
     ensures messages { messages.new.items ≡ messages_after s ends.old.items assignment.now messages.old.items }
+    ensures few { vec_len messages.new ≤ vec_len messages.old + 1 }
     ensures capacity { vec_capacity messages.old ≤ vec_capacity messages.new }
 {
     if !assignment.valid {

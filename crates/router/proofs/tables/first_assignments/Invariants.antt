@@ -1,4 +1,4 @@
-use Rattle.std.proofs.Common.{◌≡◌, ◌*◌, length}
+use Rattle.std.proofs.Common.{◌≡◌, length}
 use Rattle.router.specs.First.{AreFirst}
 use Rattle.router.proofs.tables.first_assignments.Given as goal
 
