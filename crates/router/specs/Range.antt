@@ -2,6 +2,8 @@
 use Rattle.std.specs.Prelude.{ℕ, ◌≡◌, ◌<◌, ◌≤◌, ◌*◌, ◌^◌, true}
 use Rattle.xv_model.specs.declared.assignments.Assignment.{Assignment}
 use Rattle.xv_model.specs.declared.board.Board.{Board}
+use Rattle.xv_model.specs.declared.operations.EndConfig.{EndConfig}
+use Rattle.xv_model.specs.Flags.{enqueues}
 use Rattle.xv_model.specs.Validity.{valid_config}
 use Rattle.router.specs.declared.ends.EndRecord.{EndRecord}
 
@@ -19,3 +21,9 @@ pub record IsEnd (b : Board) (r : EndRecord) : Type 0 where
 -- no more entries were written than notices routed
 abbrev pub HasWrittenAtMost : ℕ → EndRecord → Type 0
 HasWrittenAtMost routed r = r.written ≤ routed
+
+-- where a configuration has a queue, the queue's size and place are far from the widths of numbers
+pub record IsNarrow (c : EndConfig) : Type 0 where
+  pub start : c.start ≡ 0
+  pub shift : enqueues c ≡ true → (2 ≤ c.qshift) × (c.qshift ≤ 24)
+  pub addr : enqueues c ≡ true → c.qaddr ≤ 2 ^ 26

@@ -1,20 +1,20 @@
 //! Configurations of ENDs and sources.
 
-ghost use Rattle.std.specs.Prelude.{◌≡◌, ◌<◌, ◌*◌, ◌∷◌, ℕ, List, true};
+ghost use Rattle.std.specs.Prelude.{◌≡◌, ◌≢◌, ◌<◌, ◌+◌, ◌*◌, ◌^◌, ◌∷◌, ℕ, List, true, false};
 ghost use Rattle.xv_model.specs.declared.entries.Entry.{Entry};
 ghost use Rattle.xv_model.specs.declared.operations.Op.TheVariants.{EndSet, Hcall};
 ghost use Rattle.xv_model.specs.declared.outcomes.Outcome.TheVariants.{Fine, Reply};
 ghost use Rattle.xv_model.specs.Start.{Start};
-ghost use Rattle.xv_model.specs.Assignments.{set_source_config as number_of_call};
-ghost use Rattle.xv_model.specs.Hypercalls.{hcall_reply};
+ghost use Rattle.xv_model.specs.Assignments.{set_source_config as number_of_call, source_config, is_success, assigned_by};
+ghost use Rattle.xv_model.specs.Hypercalls.{is_source, is_target, source_config_code, bare_reply as bare_reply_of, hcall_reply};
 ghost use Rattle.xv_model.specs.Validity.{valid_config};
+ghost use Rattle.router.specs.Accepted.{IsAccepted};
 ghost use Rattle.router.specs.Standing.{StandsFor};
 
 use crate::ends::EndRecord;
 use crate::tables::Tables;
-use bitflags::Flags;
 use xv_model::assignments::Assignment;
-use xv_model::operations::{EndConfig, EndFlags};
+use xv_model::operations::EndConfig;
 use xv_model::outcomes::HReply;
 
 /// The codes of hypercalls.
@@ -33,17 +33,26 @@ const MASKED_OFF: u64 = 0xff;
 
 impl Tables {
     /// Whether a number is that of a source with a valid assignment.
-    fn is_source(&self, s: u64) -> bool {
+    fn is_source(&self, s: u64) -> bool
+        ensures value { (z : Start) (h : List Entry) → StandsFor self.now z h → result ≡ is_source z h s }
+        ensures source { result ≡ true → s < self.now.board.limits.sources }
+    {
         s < self.board.limits.sources as u64 && self.assignments[s as usize].valid
     }
 
     /// Whether a number is that of a connected processor.
-    fn is_target(&self, v: u64) -> bool {
+    fn is_target(&self, v: u64) -> bool
+        ensures value { (z : Start) (h : List Entry) → StandsFor self.now z h → result ≡ is_target z h v }
+        ensures target { result ≡ true → v < self.now.board.limits.processors }
+    {
         v < self.board.limits.processors as u64 && !self.board.unconnected.has(v as u32)
     }
 
     /// The code of SET_SOURCE_CONFIG.
-    fn source_config_code(&self, args: &[u64; 5]) -> i64 {
+    fn source_config_code(&self, args: &[u64; 5]) -> i64
+        ensures value { (z : Start) (h : List Entry) → StandsFor self.now z h → result ≡ source_config_code z h (source_config args.now) }
+        ensures accepted { is_success result ≡ true → IsAccepted self.now.board (source_config args.now) }
+    {
         let [flags, source, target, priority, _] = *args;
         if flags > 3 {
             return H_PARAMETER;
@@ -71,18 +80,7 @@ impl Tables {
         ensures board { self.new.board ≡ self.old.board }
         ensures routed { self.new.routed ≡ self.old.routed }
     {
-        let state = if config.flags.contains(EndFlags::VALID) {
-            0
-        } else {
-            1
-        };
-        self.ends[e as usize] = EndRecord {
-            config: *config,
-            written: 0,
-            taken: 0,
-            esn: state,
-            ese: state,
-        };
+        self.ends[e as usize] = EndRecord::configured(config);
     }
 
     /// The hypercall SET_SOURCE_CONFIG (0x3ac), by its arguments: flags (1 masks, 2 gives the payload), source,
@@ -93,37 +91,61 @@ impl Tables {
     pub fn set_source_config(&mut self, args: &[u64; 5]) -> HReply
         ensures reply { (z : Start) (h : List Entry) → StandsFor self.old z h → result ≡ hcall_reply z h args.now }
         ensures stands { (z : Start) (h : List Entry) (actor : ℕ) → StandsFor self.old z h → StandsFor self.new z (record { actor = actor; op = Hcall number_of_call args.now; outcome = Reply result } ∷ h) }
+        ensures refused { is_success result.code ≡ false → self.new ≡ self.old }
         ensures bare { result.outs ≡ 0 }
         ensures board { self.new.board ≡ self.old.board }
         ensures routed { self.new.routed ≡ self.old.routed }
     {
         let code = self.source_config_code(args);
-        if code == H_SUCCESS {
-            let assignment = &mut self.assignments[args[1] as usize];
-            *assignment = if args[3] == MASKED_OFF {
-                Assignment {
-                    valid: true,
-                    masked: true,
-                    end: 0,
-                    eisn: 0,
-                }
-            } else {
-                Assignment {
-                    valid: true,
-                    masked: args[0] & 1 != 0,
-                    end: (8 * args[2] + args[3]) as u32,
-                    eisn: if args[0] & 2 != 0 {
-                        (args[4] % (1 << 31)) as u32
-                    } else {
-                        assignment.eisn
-                    },
-                }
-            };
+        if !is_accepted(code) {
+            return bare_reply(code);
         }
-        HReply {
-            code,
-            outs: 0,
-            out: [0; 4],
-        }
+        assign(&mut self.assignments[args[1] as usize], args);
+        bare_reply(code)
     }
+}
+
+/// Whether a code says that a call is accepted.
+fn is_accepted(code: i64) -> bool
+    ensures { result ≡ is_success code }
+{
+    code == H_SUCCESS
+}
+
+/// A reply without outputs.
+fn bare_reply(code: i64) -> HReply
+    ensures { result ≡ bare_reply_of code }
+{
+    HReply {
+        code,
+        outs: 0,
+        out: [0; 4],
+    }
+}
+
+/// Assigns what accepted arguments say.
+fn assign(assignment: &mut Assignment, args: &[u64; 5])
+    requires accepted { (source_config args.now).priority ≢ 255 → 8 * (source_config args.now).target + (source_config args.now).priority < 2 ^ 32 }
+    ensures value { assignment.new ≡ assigned_by (source_config args.now) assignment.old }
+{
+    let [flags, _, target, priority, payload] = *args;
+    *assignment = if priority == MASKED_OFF {
+        Assignment {
+            valid: true,
+            masked: true,
+            end: 0,
+            eisn: 0,
+        }
+    } else {
+        Assignment {
+            valid: true,
+            masked: flags & 1 == 1,
+            end: (8 * target + priority) as u32,
+            eisn: if flags & 2 == 2 {
+                (payload % (1 << 31)) as u32
+            } else {
+                assignment.eisn
+            },
+        }
+    };
 }

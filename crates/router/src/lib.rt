@@ -5,6 +5,7 @@
 mod configuring;
 pub mod ends;
 mod routing;
+mod runs;
 pub mod tables;
 #[cfg(test)]
 mod tests;

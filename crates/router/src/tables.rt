@@ -1,11 +1,12 @@
 //! The tables of the router.
 
-ghost use Rattle.std.specs.Prelude.{◌≡◌, ◌<◌, ◌≤◌, ◌*◌, List, [], length, slice_get, IfOk};
+ghost use Rattle.std.specs.Prelude.{◌≡◌, ◌<◌, ◌≤◌, ◌*◌, List, [], length, slice_get, vec_len, IfOk};
 ghost use Rattle.xv_model.specs.declared.entries.Entry.{Entry};
 ghost use Rattle.xv_model.specs.Boards.{IsBoard};
-ghost use Rattle.xv_model.specs.Start.{Start, start};
+ghost use Rattle.xv_model.specs.Start.{Start, start, first_assignment as first_assignment_of};
 ghost use Rattle.xv_model.specs.Notices.{routes as routes_of};
 ghost use Rattle.xv_model.specs.Assignments.{initialised as is_initialised};
+ghost use Rattle.router.specs.First.{AreFirst};
 ghost use Rattle.router.specs.Standing.{StandsFor, end_of};
 ghost use Rattle.router.specs.Range.{IsEnd};
 
@@ -16,7 +17,6 @@ use xv_base::NoMemory;
 use xv_model::assignments::Assignment;
 use xv_model::board::Board;
 use xv_model::messages::Message;
-use xv_model::operations::EndConfig;
 
 /// How many messages may be in flight. The room for them is taken when the tables are built.
 pub const MOST_MESSAGES: usize = 4096;
@@ -49,26 +49,29 @@ impl Model for Tables {
         × (vec_len t.messages ≤ 4096) × (4096 ≤ vec_capacity t.messages) };
 }
 
-/// How an END starts.
-const FIRST_END: EndRecord = EndRecord {
-    config: EndConfig::OFF,
-    written: 0,
-    taken: 0,
-    esn: 1,
-    ese: 1,
-};
+/// The assignment that a source starts with: one that is claimed is valid and masked.
+fn first_assignment(board: &Board, s: u32) -> Assignment
+    requires board { IsBoard board.now }
+    ensures { result ≡ first_assignment_of board.now s }
+{
+    let claimed = !board.unclaimed.has(s);
+    Assignment {
+        valid: claimed,
+        masked: claimed,
+        end: 0,
+        eisn: 0,
+    }
+}
 
-/// The assignments that the sources of a board start with: those that are claimed are valid and masked.
-fn first_assignments(alloc: Global, board: &Board) -> Result<Vec<Assignment>, NoMemory> {
+/// The assignments that the sources of a board start with.
+fn first_assignments(alloc: Global, board: &Board) -> Result<Vec<Assignment>, NoMemory>
+    requires board { IsBoard board.now }
+    ensures len { IfOk result (λ v. vec_len v ≡ board.now.limits.sources) }
+    ensures items { IfOk result (λ v. AreFirst board.now v.items) }
+{
     let mut assignments = Vec::new(alloc);
     for s in 0..board.limits.sources {
-        let claimed = !board.unclaimed.has(s);
-        assignments.push(Assignment {
-            valid: claimed,
-            masked: claimed,
-            end: 0,
-            eisn: 0,
-        })?;
+        assignments.push(first_assignment(board, s))?;
     }
     Ok(assignments)
 }
@@ -84,7 +87,7 @@ impl Tables {
         let sources = board.limits.sources as usize;
         let assignments = first_assignments(alloc, board)?;
         let routes = vec![in alloc; 0; sources]?;
-        let ends = vec![in alloc; FIRST_END; 8 * board.limits.processors as usize]?;
+        let ends = vec![in alloc; EndRecord::FIRST; 8 * board.limits.processors as usize]?;
         let messages = Vec::with_capacity(alloc, MOST_MESSAGES)?;
         Ok(Tables {
             board: *board,
