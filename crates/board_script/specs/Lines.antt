@@ -11,10 +11,11 @@ use Rattle.board_script.specs.declared.stage.Stage.{Stage}
 use Rattle.board_script.specs.declared.stage.Stage.TheVariants.{Header, Work, Ended}
 use Rattle.board_script.specs.declared.lines.Said.{Said}
 use Rattle.board_script.specs.declared.lines.Said.TheVariants as said
+use Rattle.board_script.specs.declared.work.Step.TheVariants.{First}
 use Rattle.board_script.specs.declared.work.Work.{Work as AWork}
 use Rattle.board_script.specs.Words.{are_printable, word_of, rest_of, is_blank, is_word}
 use Rattle.board_script.specs.Numbers.{bounded_of, pair_of}
-use Rattle.board_script.specs.Working.{IsFresh}
+use Rattle.board_script.specs.Working.{HasValidSteps, IsFresh}
 
 -- what is read of a line: nothing at all where it is refused
 abbrev pub Reading : Type 0
@@ -71,7 +72,7 @@ operation_of name rest =
 
 -- a line of an actor that operates on a source's word once
 abbrev pub work_by : Option PqOp → ℕ → ℕ → Reading
-work_by (Some o) actor s = Some (said.Work actor (record { op = op.Pq s o; made = false }))
+work_by (Some o) actor s = Some (said.Work actor (record { op = op.Pq s o; follow = None; at = First }))
 work_by None actor s = None
 
 -- a line after the header, by its first word and what stands after it
@@ -129,10 +130,10 @@ IsHeaderSaid turns.Actors it = IsNumber 1 17 it
 IsHeaderSaid turns.Esb it = IsPages it
 IsHeaderSaid turns.Go it = IsGo it
 
--- a work line is by an actor of the board, its operation is valid there, and it has made nothing yet
+-- a work line is by an actor of the board, its operations are valid there, and it has made nothing yet
 pub record IsWork (b : Board) (actor : ℕ) (work : AWork) : Type 0 where
   pub actor_is : actor < b.limits.actors
-  pub valid_op : valid b work.op ≡ true
+  pub valid_steps : HasValidSteps b work
   pub fresh : IsFresh work
 
 -- what a line after the header says is the end, or a work line
