@@ -57,3 +57,11 @@ steps_left w = steps_from w.at
 pub record HasValidSteps (b : Board) (w : Work) : Type 0 where
   pub first : valid b w.op ≡ true
   pub second : IfSome w.follow (λ s. valid b (op.Route s) ≡ true)
+
+-- a fresh line of one operation
+abbrev pub once : Op → Work
+once o = record { op = o; follow = None; at = First }
+
+-- a fresh line of an operation on a source, whose notice is routed where it forwarded
+abbrev pub followed : Op → ℕ → Work
+followed o s = record { op = o; follow = Some s; at = First }

@@ -39,13 +39,11 @@ fn forwarded(last: Option<&Outcome>) -> bool
 }
 
 impl Work {
-    ghost use Rattle.board_script.specs.Working.{HasMade, HasValidSteps, IsFresh, IsLast, next_op, steps_left};
+    ghost use Rattle.board_script.specs.Working.{HasMade, HasValidSteps, IsLast, next_op, once as once_of, followed as followed_of, steps_left};
 
     /// A line that has not made its operation yet, and makes no second one.
-    pub fn new(op: Op) -> Work
-        ensures op { result.op ≡ op }
-        ensures follow { result.follow ≡ None }
-        ensures fresh { IsFresh result }
+    pub fn once(op: Op) -> Work
+        ensures { result ≡ once_of op }
     {
         Work {
             op,
@@ -56,9 +54,7 @@ impl Work {
 
     /// A line that routes the notice of a source where its first operation forwarded.
     pub fn followed(op: Op, s: u32) -> Work
-        ensures op { result.op ≡ op }
-        ensures follow { result.follow ≡ Some s }
-        ensures fresh { IsFresh result }
+        ensures { result ≡ followed_of op s }
     {
         Work {
             op,
