@@ -9,7 +9,7 @@ use Rattle.xv_model.specs.Assignments.{set_source_config}
 use Rattle.board_script.specs.declared.work.Work.{Work}
 use Rattle.board_script.specs.Words.{word_of, rest_of, is_blank}
 use Rattle.board_script.specs.Numbers.{number_of, bounded_of, word32_of, end_of, with_number}
-use Rattle.board_script.specs.Flags.{flags_of}
+use Rattle.board_script.specs.Flags.{flags_of, of_bits}
 use Rattle.board_script.specs.Working.{once}
 
 -- a configuration with its escalation END and what that writes, the last two words of a line
@@ -28,7 +28,7 @@ queue_of b c rest =
 
 -- a configuration that notifies a processor with a priority, and has no more
 abbrev pub notifying : ℕ → ℕ → ℕ → EndConfig
-notifying flags vp priority = record { flags = record { 0 = flags }; vp = vp; priority = priority; qaddr = 0; qshift = 0; start = 0; esc = 0; esc_eisn = 0 }
+notifying flags vp priority = record { flags = of_bits flags; vp = vp; priority = priority; qaddr = 0; qshift = 0; start = 0; esc = 0; esc_eisn = 0 }
 
 -- a configuration of these flags, by what stands after them: whom it notifies, and what the words after that say
 abbrev pub config_of : Board → ℕ → List ℕ → Option EndConfig

@@ -1,5 +1,6 @@
 -- The flags of an END, as a line has them.
 use Rattle.std.specs.Prelude.{ℕ, ◌+◌, ◌==◌, nat_lt, if◌then◌else◌, List, [], ◌∷◌, Option, Some, None, codes}
+use Rattle.xv_model.specs.declared.operations.EndFlags.{EndFlags}
 use Rattle.board_script.specs.Words.{is_empty, is_word}
 
 -- the bit of a letter: v, q, n or b
@@ -26,3 +27,7 @@ abbrev pub flags_of : List ℕ → Option ℕ
 flags_of word =
     if is_word (codes "-") word then Some 0
     else (if is_empty word then None else flags_from (Some 0) word)
+
+-- the flags of an END with these bits
+abbrev pub of_bits : ℕ → EndFlags
+of_bits bits = record { 0 = bits }

@@ -5,13 +5,12 @@ ghost use Rattle.xv_model.specs.declared.board.Board.{Board};
 ghost use Rattle.board_script.specs.Working.{HasValidSteps, IsFresh};
 ghost use Rattle.board_script.specs.Configuring.{escalation_of, queue_of, config_of, endset_of, if_valid, last_of, more_of, args_of, hcall_of};
 
-use crate::flags::flags;
+use crate::flags::{flags, with_bits};
 use crate::numbers::{bounded, end_number, number, word32};
 use crate::words::{blank, cut};
 use crate::work::Work;
-use bitflags::Flags;
 use xv_model::board::Board;
-use xv_model::operations::{EndConfig, EndFlags, Op};
+use xv_model::operations::{EndConfig, Op};
 use xv_model::validity::{SET_SOURCE_CONFIG, valid};
 
 /// A configuration with its escalation END and what that writes, the last two words of a line.
@@ -59,7 +58,7 @@ fn config(board: &Board, flags: u8, rest: &[u8]) -> Option<EndConfig>
     let vp = bounded(first, 0, board.limits.processors)?;
     let priority = bounded(second, 0, 256)?;
     let config = EndConfig {
-        flags: EndFlags::from_bits_retain(flags),
+        flags: with_bits(flags),
         vp,
         priority: priority as u8,
         qaddr: 0,

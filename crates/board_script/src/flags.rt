@@ -1,9 +1,11 @@
 //! The flags of an END, as a line has them.
 
 ghost use Rattle.std.specs.Prelude.{◌≡◌, ◌≤◌, IfSome};
-ghost use Rattle.board_script.specs.Flags.{bit_of, flags_of};
+ghost use Rattle.board_script.specs.Flags.{bit_of, of_bits, flags_of};
 
 use crate::words::same;
+use bitflags::Flags;
+use xv_model::operations::EndFlags;
 
 /// The bit of a letter: v, q, n or b.
 fn bit(letter: u8) -> Option<u8>
@@ -17,6 +19,13 @@ fn bit(letter: u8) -> Option<u8>
         b'b' => Some(8),
         _ => None,
     }
+}
+
+/// The flags of an END with these bits.
+pub fn with_bits(bits: u8) -> EndFlags
+    ensures { result ≡ of_bits bits }
+{
+    EndFlags::from_bits_retain(bits)
 }
 
 /// The flags that a word is: `-` is none; else letters, each at most once and in the order v, q, n, b.

@@ -103,13 +103,7 @@ pub fn word32(word: &[u8]) -> Option<u32>
     ensures { result ≡ word32_of word.now }
 {
     match number(word) {
-        Some(n) => {
-            if n < 1 << 32 {
-                Some(n as u32)
-            } else {
-                None
-            }
-        }
+        Some(n) => { if n < 1 << 32 { Some(n as u32) } else { None } }
         None => None,
     }
 }
