@@ -1,9 +1,9 @@
 -- The board of a header stays one while the header is read.
-use Rattle.std.proofs.Common.{ℕ, zero, suc, ◌≡◌, ◌<◌, ◌≤◌, ◌+◌, List, [], ◌∷◌, Option, Some, None, slice_get, slice_set, subst, sym, refl, arith, rules}
+use Rattle.std.proofs.Common.{ℕ, zero, suc, ◌≡◌, ◌<◌, ◌≤◌, ◌+◌, List, [], ◌∷◌, Some, slice_get, slice_set, arith, rules}
 use Rattle.xv_model.specs.declared.board.Board.{Board}
 use Rattle.xv_model.specs.declared.board.Span.{Span}
 use Rattle.xv_model.specs.declared.board.Spans.{Spans}
-use Rattle.xv_model.specs.Boards.{IsBoard, IsPlain, AreBelow}
+use Rattle.xv_model.specs.Boards.{AreBelow}
 use Rattle.board_script.specs.declared.stage.Turn.{Turn}
 use Rattle.board_script.specs.declared.stage.Turn.TheVariants as turns
 use Rattle.board_script.specs.declared.stage.Stage.{Stage}

@@ -2,7 +2,6 @@
 use Rattle.std.specs.Prelude.{ℕ, if◌then◌else◌, not, List, Option, Some, None, codes}
 use Rattle.xv_model.specs.declared.operations.PqOp.{PqOp}
 use Rattle.xv_model.specs.declared.operations.PqOp.TheVariants.{Trigger, Eoi, Get, Set}
-use Rattle.xv_model.specs.declared.operations.Op.{Op}
 use Rattle.xv_model.specs.declared.operations.Op.TheVariants as op
 use Rattle.board_script.specs.declared.work.Work.{Work}
 use Rattle.board_script.specs.Words.{word_of, rest_of, is_blank, is_word}
