@@ -1,12 +1,14 @@
 -- Reading a script line after line, and a work line step after step.
-use Rattle.std.proofs.Common.{Option, Some, None, ℕ, ◌≡◌, Bool, true, false, List, [], ◌∷◌, ◌++◌, Ok, Err, refl, sym, ◌∙◌, ap, append_assoc}
+use Rattle.std.proofs.Common.{Option, Some, None, ℕ, ◌≡◌, Bool, true, false, List, [], ◌∷◌, ◌++◌, Ok, Err, refl, sym, ◌∙◌, ap, append_assoc, subst, IfSome}
 use Rattle.std.specs.declared.result.Result.{Result}
 use Rattle.xv_model.specs.declared.board.Board.{Board}
+use Rattle.xv_model.specs.declared.operations.Op.TheVariants as op
+use Rattle.xv_model.specs.Validity.{valid}
 use Rattle.board_script.specs.declared.faults.ScriptFault.{ScriptFault}
 use Rattle.board_script.specs.declared.lines.Line.{Line}
 use Rattle.board_script.specs.declared.lines.Line.TheVariants as line
 use Rattle.board_script.specs.declared.work.Work.{Work as AWork}
-use Rattle.board_script.specs.Working.{HasMade, IsFresh}
+use Rattle.board_script.specs.Working.{HasMade, HasValidSteps, IsFresh}
 use Rattle.board_script.specs.Stages.{board_at, whole_board, stage_by, line_by}
 use Rattle.board_script.specs.Lines.{Reading, said_of}
 use Rattle.board_script.specs.declared.stage.Stage.TheVariants.{Work}
@@ -16,7 +18,14 @@ use Rattle.board_script.specs.Script.{Script, Accepted, Refused, TooLong, WorkLi
 
 -- a fresh line has made nothing
 pub nothing_made : (w : AWork) → IsFresh w → HasMade w w []
-nothing_made w fresh = (refl, fresh)
+nothing_made w fresh = record { same_op = refl; same_follow = refl; step = fresh }
+
+-- the operations of a line are as valid while it is on the way
+pub still_valid : (b : Board) (now w : AWork) → now.op ≡ w.op → now.follow ≡ w.follow → HasValidSteps b w → HasValidSteps b now
+still_valid b now w same_op same_follow v = record {
+  first = subst (λ o. valid b o ≡ true) (sym same_op) v.first;
+  second = subst (λ (f : Option ℕ). IfSome f (λ s. valid b (op.Route s) ≡ true)) (sym same_follow) v.second;
+}
 
 -- the line isn't the end of a script
 abbrev pub IsNotEnd : Line → Type 0

@@ -2,7 +2,10 @@
 -- entries of an account, the newest first.
 pub mod Words
 pub mod Numbers
+pub mod Flags
 pub mod Working
+pub mod Sources
+pub mod Configuring
 pub mod Lines
 pub mod Stages
 pub mod Parsing

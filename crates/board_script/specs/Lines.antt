@@ -1,10 +1,8 @@
 -- What a line says.
-use Rattle.std.specs.Prelude.{ℕ, ◌≡◌, ◌==◌, ◌<◌, ◌≤◌, ◌&&◌, ◌||◌, not, nat_lt, true, false, if◌then◌else◌, List, [], ◌∷◌, length, codes, Option, Some, None}
+use Rattle.std.specs.Prelude.{ℕ, ◌==◌, ◌<◌, ◌≤◌, ◌&&◌, ◌||◌, not, nat_lt, if◌then◌else◌, List, [], ◌∷◌, length, codes, Option, Some, None}
 use Rattle.xv_model.specs.declared.board.Board.{Board}
-use Rattle.xv_model.specs.declared.operations.PqOp.{PqOp}
-use Rattle.xv_model.specs.declared.operations.PqOp.TheVariants.{Trigger, Eoi, Get, Set}
-use Rattle.xv_model.specs.declared.operations.Op.TheVariants as op
-use Rattle.xv_model.specs.Validity.{valid}
+use Rattle.xv_model.specs.declared.board.Span.{Span}
+use Rattle.xv_model.specs.declared.operations.PqOp.TheVariants.{Trigger, Eoi}
 use Rattle.board_script.specs.declared.stage.Turn.{Turn}
 use Rattle.board_script.specs.declared.stage.Turn.TheVariants as turns
 use Rattle.board_script.specs.declared.stage.Stage.{Stage}
@@ -13,17 +11,14 @@ use Rattle.board_script.specs.declared.lines.Said.{Said}
 use Rattle.board_script.specs.declared.lines.Said.TheVariants as said
 use Rattle.board_script.specs.declared.work.Work.{Work as AWork}
 use Rattle.board_script.specs.Words.{are_printable, word_of, rest_of, is_blank, is_word}
-use Rattle.board_script.specs.Numbers.{bounded_of, pair_of}
-use Rattle.board_script.specs.Working.{IsFresh}
+use Rattle.board_script.specs.Numbers.{bounded_of, with_number}
+use Rattle.board_script.specs.Working.{HasValidSteps, IsFresh}
+use Rattle.board_script.specs.Sources.{single_of, routed_of}
+use Rattle.board_script.specs.Configuring.{endset_of, hcall_of}
 
 -- what is read of a line: nothing at all where it is refused
 abbrev pub Reading : Type 0
 Reading = Option Said
-
--- goes on with a number, where there is one
-abbrev pub with_number : Option ℕ → (ℕ → Reading) → Reading
-with_number (Some n) next = next n
-with_number None next = None
 
 -- a line of a name and a number from low on and below high
 abbrev pub number_line_of : List ℕ → ℕ → ℕ → List ℕ → List ℕ → Reading
@@ -40,51 +35,54 @@ pages_line_of word rest =
     if is_blank (rest_of (rest_of rest)) then Some (said.Pages (pages == 2) (eoi == 1)) else None))
     else None
 
+-- the line of a range of sources that start unclaimed, where the board has room for one more
+abbrev pub unclaimed_of : Board → List ℕ → Reading
+unclaimed_of b rest =
+    with_number (bounded_of (word_of rest) 0 b.limits.sources) (λ first.
+    with_number (bounded_of (word_of (rest_of rest)) first b.limits.sources) (λ last.
+    if is_blank (rest_of (rest_of rest)) && nat_lt b.unclaimed.count 16 then Some (said.Unclaimed (record { first = first; last = last })) else None))
+
+-- a line at the end of the header: a range, or the end
+abbrev pub last_of : Board → List ℕ → List ℕ → Reading
+last_of b word rest =
+    if is_word (codes "unclaimed") word then unclaimed_of b rest
+    else (if is_word (codes "go") word && is_blank rest then Some said.Go else None)
+
 -- a line of the header, by its first word and what stands after it
-abbrev pub header_of : Turn → List ℕ → List ℕ → Reading
-header_of turns.Board word rest = number_line_of (codes "board") 1 2 word rest
-header_of turns.Sources word rest = number_line_of (codes "sources") 1 8193 word rest
-header_of turns.Processors word rest = number_line_of (codes "processors") 1 65 word rest
-header_of turns.Threads word rest = number_line_of (codes "threads") 1 33 word rest
-header_of turns.Ram word rest = number_line_of (codes "ram") 0 65 word rest
-header_of turns.Actors word rest = number_line_of (codes "actors") 1 17 word rest
-header_of turns.Esb word rest = pages_line_of word rest
-header_of turns.Go word rest = if is_word (codes "go") word && is_blank rest then Some said.Go else None
+abbrev pub header_of : Turn → Board → List ℕ → List ℕ → Reading
+header_of turns.Board b word rest = number_line_of (codes "board") 1 2 word rest
+header_of turns.Sources b word rest = number_line_of (codes "sources") 1 8193 word rest
+header_of turns.Processors b word rest = number_line_of (codes "processors") 1 65 word rest
+header_of turns.Threads b word rest = number_line_of (codes "threads") 1 33 word rest
+header_of turns.Ram b word rest = number_line_of (codes "ram") 0 65 word rest
+header_of turns.Actors b word rest = number_line_of (codes "actors") 1 17 word rest
+header_of turns.Esb b word rest = pages_line_of word rest
+header_of turns.Go b word rest = last_of b word rest
 
--- the operation that sets a pair, where there is one and no word stands after it
-abbrev pub set_by : Option ℕ → List ℕ → Option PqOp
-set_by (Some pq) rest = if is_blank rest then Some (Set pq) else None
-set_by None rest = None
+-- the work of a line, by the name of the operation and what stands after it
+abbrev pub steps_of : Board → List ℕ → List ℕ → Option AWork
+steps_of b name rest =
+    if is_word (codes "fire") name then routed_of Trigger b.limits.sources rest
+    else (if is_word (codes "finish") name then routed_of Eoi b.limits.sources rest
+    else (if is_word (codes "endset") name then endset_of b rest
+    else (if is_word (codes "hcall") name then hcall_of rest
+    else single_of b.limits.sources name rest)))
 
--- the operation that sets a pair, by what stands after its name
-abbrev pub set_of : List ℕ → Option PqOp
-set_of rest = set_by (pair_of (word_of rest)) (rest_of rest)
-
--- the operation on a source's word, by its name and what stands after the source
-abbrev pub operation_of : List ℕ → List ℕ → Option PqOp
-operation_of name rest =
-    if is_word (codes "set") name then set_of rest
-    else (if not (is_blank rest) then None
-    else (if is_word (codes "trigger") name then Some Trigger
-    else (if is_word (codes "eoi") name then Some Eoi
-    else (if is_word (codes "get") name then Some Get else None))))
-
--- a line of an actor that operates on a source's word once
-abbrev pub work_by : Option PqOp → ℕ → ℕ → Reading
-work_by (Some o) actor s = Some (said.Work actor (record { op = op.Pq s o; made = false }))
-work_by None actor s = None
+-- a line of an actor that has work
+abbrev pub work_by : ℕ → Option AWork → Reading
+work_by actor (Some work) = Some (said.Work actor work)
+work_by actor None = None
 
 -- a line after the header, by its first word and what stands after it
 abbrev pub work_of : Board → List ℕ → List ℕ → Reading
 work_of b word rest =
     if is_word (codes "end") word then (if is_blank rest then Some said.End else None)
     else with_number (bounded_of word 0 b.limits.actors) (λ actor.
-    with_number (bounded_of (word_of (rest_of rest)) 0 b.limits.sources) (λ s.
-    work_by (operation_of (word_of rest) (rest_of (rest_of rest))) actor s))
+    work_by actor (steps_of b (word_of rest) (rest_of rest)))
 
 -- what the words of a line say at a stage, by the first word and what stands after it
 abbrev pub words_of : Stage → List ℕ → List ℕ → Reading
-words_of (Header turn b) word rest = header_of turn word rest
+words_of (Header turn b) word rest = header_of turn b word rest
 words_of (Work b) word rest = work_of b word rest
 words_of (Ended b) word rest = Some said.Nothing
 
@@ -113,26 +111,33 @@ abbrev pub IsPages : Said → Type 0
 IsPages (said.Pages two_pages store_eoi) = Unit {0}
 IsPages _ = ⊥
 
--- the end of the header
-abbrev pub IsGo : Said → Type 0
-IsGo said.Go = Unit {0}
-IsGo _ = ⊥
+-- one more range of sources that start unclaimed: there is room for it, and it is one of the board's sources
+pub record IsRange (b : Board) (span : Span) : Type 0 where
+  pub room : b.unclaimed.count < 16
+  pub ordered : span.first ≤ span.last
+  pub below : span.last < b.limits.sources
+
+-- a range, or the end of the header
+abbrev pub IsLastSaid : Board → Said → Type 0
+IsLastSaid b (said.Unclaimed span) = IsRange b span
+IsLastSaid b said.Go = Unit {0}
+IsLastSaid b _ = ⊥
 
 -- what a line of the header says has the form and the range of its turn
-abbrev pub IsHeaderSaid : Turn → Said → Type 0
-IsHeaderSaid turns.Board it = IsNumber 1 2 it
-IsHeaderSaid turns.Sources it = IsNumber 1 8193 it
-IsHeaderSaid turns.Processors it = IsNumber 1 65 it
-IsHeaderSaid turns.Threads it = IsNumber 1 33 it
-IsHeaderSaid turns.Ram it = IsNumber 0 65 it
-IsHeaderSaid turns.Actors it = IsNumber 1 17 it
-IsHeaderSaid turns.Esb it = IsPages it
-IsHeaderSaid turns.Go it = IsGo it
+abbrev pub IsHeaderSaid : Turn → Board → Said → Type 0
+IsHeaderSaid turns.Board b it = IsNumber 1 2 it
+IsHeaderSaid turns.Sources b it = IsNumber 1 8193 it
+IsHeaderSaid turns.Processors b it = IsNumber 1 65 it
+IsHeaderSaid turns.Threads b it = IsNumber 1 33 it
+IsHeaderSaid turns.Ram b it = IsNumber 0 65 it
+IsHeaderSaid turns.Actors b it = IsNumber 1 17 it
+IsHeaderSaid turns.Esb b it = IsPages it
+IsHeaderSaid turns.Go b it = IsLastSaid b it
 
--- a work line is by an actor of the board, its operation is valid there, and it has made nothing yet
+-- a work line is by an actor of the board, its operations are valid there, and it has made nothing yet
 pub record IsWork (b : Board) (actor : ℕ) (work : AWork) : Type 0 where
   pub actor_is : actor < b.limits.actors
-  pub valid_op : valid b work.op ≡ true
+  pub valid_steps : HasValidSteps b work
   pub fresh : IsFresh work
 
 -- what a line after the header says is the end, or a work line
@@ -143,7 +148,7 @@ IsWorkSaid b _ = ⊥
 
 -- what words say fits the stage
 abbrev pub IsWordsSaid : Stage → Said → Type 0
-IsWordsSaid (Header turn b) it = IsHeaderSaid turn it
+IsWordsSaid (Header turn b) it = IsHeaderSaid turn b it
 IsWordsSaid (Work b) it = IsWorkSaid b it
 IsWordsSaid (Ended b) it = ⊥
 

@@ -56,3 +56,16 @@ pair_of word =
     else (if is_word (codes "01") word then Some 1
     else (if is_word (codes "10") word then Some 2
     else (if is_word (codes "11") word then Some 3 else None)))
+
+-- a number below 2 ^ 32
+abbrev pub word32_of : List ℕ → Option ℕ
+word32_of word = in_bounds (number_of word) 0 (2 ^ 32)
+
+-- the number of an END of a board with so many processors, which have eight each
+abbrev pub end_of : List ℕ → ℕ → Option ℕ
+end_of word processors = in_bounds (word32_of word) 0 (8 * processors)
+
+-- goes on with a number, where there is one
+abbrev pub with_number : {A : Type 0} → Option ℕ → (ℕ → Option A) → Option A
+with_number (Some n) next = next n
+with_number None next = None

@@ -1,6 +1,7 @@
 -- The stage after a line, and what the line says to who runs the script.
-use Rattle.std.specs.Prelude.{ℕ, ◌≡◌, false, replicate, Option, Some, None}
+use Rattle.std.specs.Prelude.{ℕ, ◌≡◌, ◌+◌, false, replicate, slice_set, Option, Some, None}
 use Rattle.xv_model.specs.declared.board.Board.{Board}
+use Rattle.xv_model.specs.declared.board.Span.{Span}
 use Rattle.xv_model.specs.declared.board.Spans.{Spans}
 use Rattle.xv_model.specs.Boards.{IsBoard, IsPlain}
 use Rattle.board_script.specs.declared.stage.Turn.{Turn}
@@ -61,10 +62,15 @@ with_count turns.Ram n b = record b { ram_mib = n }
 with_count turns.Actors n b = record b { limits = record b.limits { actors = n } }
 with_count _ n b = b
 
+-- spans with one more
+abbrev pub spans_with : Span → Spans → Spans
+spans_with span spans = record { count = spans.count + 1; spans = slice_set spans.spans spans.count span }
+
 -- the board with what a line of the header says
 abbrev pub board_with : Turn → Said → Board → Board
 board_with turn (said.Number n) b = with_count turn n b
 board_with turn (said.Pages two store) b = record b { two_pages = two; store_eoi = store }
+board_with turn (said.Unclaimed span) b = record b { unclaimed = spans_with span b.unclaimed }
 board_with turn _ b = b
 
 -- the stage after a line of the header
@@ -89,18 +95,25 @@ abbrev pub line_by : Stage → Said → Line
 line_by stage said.Nothing = line.Nothing
 line_by stage (said.Number n) = line.Header
 line_by stage (said.Pages two store) = line.Header
+line_by stage (said.Unclaimed span) = line.Header
 line_by stage said.Go = line.Go (board_at stage)
 line_by stage said.End = line.End
 line_by stage (said.Work actor work) = line.Work actor work
 
--- the board so far is one without ranges
-pub record IsHeaderBoard (b : Board) : Type 0 where
+-- before the last lines of the header there are no ranges
+abbrev pub HasRanges : Turn → Spans → Type 0
+HasRanges turns.Go spans = Unit {0}
+HasRanges _ spans = spans.count ≡ 0
+
+-- the board so far is one without level sources and unconnected processors
+pub record IsHeaderBoard (turn : Turn) (b : Board) : Type 0 where
   pub is_board : IsBoard b
   pub is_plain : IsPlain b
+  pub ranges : HasRanges turn b.unclaimed
 
--- in the header, the board so far is one without ranges
+-- in the header, the board so far is one that the lines before this turn can give
 abbrev pub IsStage : Stage → Type 0
-IsStage (Header turn b) = IsHeaderBoard b
+IsStage (Header turn b) = IsHeaderBoard turn b
 IsStage (Work b) = Unit {0}
 IsStage (Ended b) = Unit {0}
 

@@ -1,8 +1,8 @@
 //! What a line says at a stage, and the stage after it.
 
-ghost use Rattle.std.specs.Prelude.{◌≡◌, IfSome, Ok};
+ghost use Rattle.std.specs.Prelude.{◌≡◌, ◌<◌, IfSome, Ok};
 ghost use Rattle.board_script.specs.Lines.{said_of, IsSaidAt};
-ghost use Rattle.board_script.specs.Stages.{next_turn, with_count, board_at, line_by, stage_by};
+ghost use Rattle.board_script.specs.Stages.{next_turn, with_count, spans_with, board_at, line_by, stage_by};
 ghost use Rattle.board_script.specs.declared.lines.Said.{Said};
 
 use crate::faults::ScriptFault;
@@ -11,7 +11,7 @@ use crate::lines::{Line, Said};
 use crate::stage::{Stage, Turn};
 use crate::words::{cut, printable};
 use crate::working::work_line;
-use xv_model::board::Board;
+use xv_model::board::{Board, Span, Spans};
 
 /// What a line says; none where it is refused.
 pub fn read_line(stage: &Stage, line: &[u8]) -> Option<Said>
@@ -29,7 +29,7 @@ pub fn read_line(stage: &Stage, line: &[u8]) -> Option<Said>
         return Some(Said::Nothing);
     }
     match stage {
-        Stage::Header { turn, .. } => header_line(*turn, word, rest),
+        Stage::Header { turn, board } => header_line(*turn, board, word, rest),
         Stage::Work { board } => work_line(board, word, rest),
         Stage::Ended { .. } => Some(Said::Nothing),
     }
@@ -95,6 +95,37 @@ fn set_pages(stage: &mut Stage, two_pages: bool, store_eoi: bool)
     }
 }
 
+/// The spans with one more.
+fn with_span(spans: Spans, span: Span) -> Spans
+    requires { spans.count < 16 }
+    ensures { result ≡ spans_with span spans }
+{
+    let mut spans = spans;
+    spans.spans[spans.count as usize] = span;
+    spans.count += 1;
+    spans
+}
+
+/// The stage after the line of a range of sources that start unclaimed.
+fn set_unclaimed(stage: &mut Stage, span: Span)
+    requires { IsSaidAt stage.old (Said.Unclaimed span) }
+    ensures { stage.new ≡ stage_by stage.old (Said.Unclaimed span) }
+{
+    if let Stage::Header {
+        turn: Turn::Go,
+        board,
+    } = *stage
+    {
+        *stage = Stage::Header {
+            turn: Turn::Go,
+            board: Board {
+                unclaimed: with_span(board.unclaimed, span),
+                ..board
+            },
+        };
+    }
+}
+
 /// The stage after `go`, and the board there.
 fn go(stage: &mut Stage) -> Board
     ensures board { result ≡ board_at stage.old }
@@ -139,6 +170,10 @@ pub fn advance(stage: &mut Stage, said: Said) -> Result<Line, ScriptFault>
             store_eoi,
         } => {
             set_pages(stage, two_pages, store_eoi);
+            Ok(Line::Header)
+        }
+        Said::Unclaimed { span } => {
+            set_unclaimed(stage, span);
             Ok(Line::Header)
         }
         Said::Go => Ok(Line::Go { board: go(stage) }),

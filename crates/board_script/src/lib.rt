@@ -2,11 +2,14 @@
 #![tactic(auto)]
 
 mod advancing;
+mod configuring;
 pub mod faults;
+mod flags;
 mod header;
 pub mod lines;
 mod numbers;
 pub mod parser;
+mod sources;
 pub mod stage;
 #[cfg(test)]
 mod tests;

@@ -1,7 +1,7 @@
 //! What the lines of a script say.
 
 use crate::work::Work;
-use xv_model::board::Board;
+use xv_model::board::{Board, Span};
 
 /// What a line says to who runs the script.
 #[derive(Clone, Copy)]
@@ -26,6 +26,7 @@ pub enum Said {
     Nothing,
     Number { n: u32 },
     Pages { two_pages: bool, store_eoi: bool },
+    Unclaimed { span: Span },
     Go,
     End,
     Work { actor: u32, work: Work },

@@ -1,7 +1,7 @@
 //! The numbers and pairs of a line.
 
 ghost use Rattle.std.specs.Prelude.{◌≡◌, ◌<◌, ◌≤◌, IfSome};
-ghost use Rattle.board_script.specs.Numbers.{decimal_of, hexadecimal_of, digit_of, number_of, bounded_of, pair_of};
+ghost use Rattle.board_script.specs.Numbers.{decimal_of, hexadecimal_of, digit_of, number_of, bounded_of, word32_of, end_of, pair_of};
 
 use crate::words::same;
 
@@ -90,6 +90,32 @@ pub fn bounded(word: &[u8], low: u32, high: u32) -> Option<u32>
         Some(n) => {
             if (low as u64) <= n && n < (high as u64) {
                 Some(n as u32)
+            } else {
+                None
+            }
+        }
+        None => None,
+    }
+}
+
+/// The number below 2 ^ 32 that a word is.
+pub fn word32(word: &[u8]) -> Option<u32>
+    ensures { result ≡ word32_of word.now }
+{
+    match number(word) {
+        Some(n) => { if n < 1 << 32 { Some(n as u32) } else { None } }
+        None => None,
+    }
+}
+
+/// The number of an END that a word is, on a board with so many processors, which have eight each.
+pub fn end_number(word: &[u8], processors: u32) -> Option<u32>
+    ensures { result ≡ end_of word.now processors }
+{
+    match word32(word) {
+        Some(e) => {
+            if (e as u64) < 8 * processors as u64 {
+                Some(e)
             } else {
                 None
             }

@@ -1,0 +1,54 @@
+//! The flags of an END, as a line has them.
+
+ghost use Rattle.std.specs.Prelude.{◌≡◌, ◌≤◌, IfSome};
+ghost use Rattle.board_script.specs.Flags.{bit_of, of_bits, flags_of};
+
+use crate::words::same;
+use bitflags::Flags;
+use xv_model::operations::EndFlags;
+
+/// The bit of a letter: v, q, n or b.
+fn bit(letter: u8) -> Option<u8>
+    ensures value { result ≡ bit_of letter }
+    ensures few { IfSome result (λ n. n ≤ 8) }
+{
+    match letter {
+        b'v' => Some(1),
+        b'q' => Some(2),
+        b'n' => Some(4),
+        b'b' => Some(8),
+        _ => None,
+    }
+}
+
+/// The flags of an END with these bits.
+pub fn with_bits(bits: u8) -> EndFlags
+    ensures { result ≡ of_bits bits }
+{
+    EndFlags::from_bits_retain(bits)
+}
+
+/// The flags that a word is: `-` is none; else letters, each at most once and in the order v, q, n, b.
+pub fn flags(word: &[u8]) -> Option<u8>
+    ensures { result ≡ flags_of word.now }
+{
+    if same(word, b"-") {
+        return Some(0);
+    }
+    if word.is_empty() {
+        return None;
+    }
+    let mut value: u8 = 0;
+    for b in word {
+        match bit(*b) {
+            Some(bit) => {
+                if value >= bit {
+                    return None;
+                }
+                value += bit;
+            }
+            None => return None,
+        }
+    }
+    Some(value)
+}
