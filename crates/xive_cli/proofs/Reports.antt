@@ -1,13 +1,11 @@
 -- The parts of a report.
-use Rattle.std.proofs.Common.{ℕ, ◌≡◌, ◌+◌, false, if◌then◌else◌, List, [], ◌++◌, Option, sym, ◌∙◌, ap, subst, refl, add-one}
-use Rattle.std.specs.Prelude.{not, nat_le, ◌&&◌, take, length, ◌*◌}
-use Rattle.std.specs.List.{list_any}
+use Rattle.std.proofs.Common.{ℕ, ◌≡◌, ◌+◌, false, if◌then◌else◌, List, [], ◌++◌, Option, sym, ◌∙◌, ap, subst, add-one}
+use Rattle.std.specs.Prelude.{not, length, ◌*◌}
 use Rattle.xv_io.specs.Gathered.{Puts}
 use Rattle.xv_io.proofs.Puts.{puts_both}
 use Rattle.xv_model.specs.declared.board.Board.{Board}
-use Rattle.xv_model.specs.declared.board.Spans.{Spans}
 use Rattle.xv_model.specs.declared.entries.Entry.{Entry}
-use Rattle.xv_model.specs.Boards.{is_in, IsPlain}
+use Rattle.xv_model.specs.Boards.{IsPlain}
 use Rattle.xv_model.specs.Start.{Start, start}
 use Rattle.xv_model.specs.Pairs.{pq, asserted}
 use Rattle.xv_model.specs.Notices.{forwards, routes, all_outstanding}
@@ -16,12 +14,9 @@ use Rattle.xv_model.specs.Text.{source_text, source_line, end_text, queue_line, 
 use Rattle.xive_cli.specs.declared.machine.Machine.{Machine}
 use Rattle.xive_cli.specs.declared.state.SourceState.{SourceState}
 use Rattle.xive_cli.specs.Standing.{StandsFor, state_of}
+use Rattle.xive_cli.proofs.Stepping.{in_none}
 use Rattle.router.specs.declared.ends.EndRecord.{EndRecord}
 use Rattle.router.specs.Standing.{end_of}
-
--- no number is in no spans
-pub in_none : (spans : Spans) (n : ℕ) → spans.count ≡ 0 → is_in spans n ≡ false
-in_none spans n e = subst (λ count. list_any (λ span. nat_le span.first n && nat_le n span.last) (take count spans.spans) ≡ false) (sym e) refl
 
 -- a line was put that was printed on a cleared one
 pub line_put : (w w' : List ℕ) (a b : Option (List ℕ)) (cleared items text : List ℕ) → cleared ≡ [] → items ≡ cleared ++ text → Puts w a w' b items → Puts w a w' b text

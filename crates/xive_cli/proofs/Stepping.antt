@@ -1,7 +1,10 @@
 -- A step of a machine that stands for an account.
 use Rattle.std.proofs.Common.{ℕ, ◌≡◌, ◌≢◌, ◌==◌, ◌+◌, ◌-◌, ◌<◌, ◌≤◌, Bool, true, false, if◌then◌else◌, List, [], ◌∷◌, length, Option, Some, None, refl, sym, ◌∙◌, ap, subst, arith, suc, slice_index_or, slice_set, slice_get, inl, inr, get_or-set_same, get_or-set_other, add-one}
-use Rattle.std.proofs.lemmas.Bool.{cases_eq, and_parts, ltb-true}
-use Rattle.std.specs.Prelude.{nat_lt, ◌&&◌, zero}
+use Rattle.std.proofs.lemmas.Bool.{cases_eq, and_parts, ltb-true, eqb-true}
+use Rattle.std.specs.Prelude.{nat_lt, nat_le, ◌&&◌, take, zero}
+use Rattle.std.specs.List.{list_any}
+use Rattle.xv_model.specs.declared.board.Spans.{Spans}
+use Rattle.xv_model.specs.Boards.{is_in, IsPlain}
 use Rattle.std.proofs.Math.ListN.{length-set, replicate, length-replicate}
 use Rattle.std.proofs.lemmas.List.{get_or-replicate}
 use Rattle.std.proofs.lemmas.Bool.Decides.{nat_tests}
@@ -13,6 +16,7 @@ use Rattle.xv_model.specs.declared.operations.PqOp.TheVariants.{Trigger, Eoi, Ge
 use Rattle.xv_model.specs.declared.operations.Op.{Op}
 use Rattle.xv_model.specs.declared.operations.Op.TheVariants as op
 use Rattle.xv_model.specs.declared.outcomes.Routed.{Routed}
+use Rattle.xv_model.specs.declared.outcomes.HReply.{HReply}
 use Rattle.xv_model.specs.declared.outcomes.Outcome.{Outcome}
 use Rattle.xv_model.specs.declared.outcomes.Outcome.TheVariants as out
 use Rattle.xv_model.specs.declared.entries.Entry.{Entry}
@@ -21,11 +25,12 @@ use Rattle.xv_model.specs.Kinds.{WordAccess, access_of, is_at, is_word}
 use Rattle.xv_model.specs.PqTable.{Cell, pq_row, flag_after}
 use Rattle.xv_model.specs.Pairs.{Touch, Change, pq, asserted, touch_at, touch_by, change_in}
 use Rattle.xv_model.specs.Notices.{forwards, route_in, routes, outstanding, sum_below, all_outstanding}
-use Rattle.xv_model.specs.Assignments.{assignment}
+use Rattle.xv_model.specs.Assignments.{set_source_config, assignment}
+use Rattle.xv_model.specs.Hypercalls.{hcall_reply}
 use Rattle.xv_model.specs.Flight.{flight}
 use Rattle.xv_model.specs.Routing.{most_messages, routed_by, route_outcome}
 use Rattle.xv_model.specs.Validity.{valid, valid_pq}
-use Rattle.xv_model.specs.Legal.{answer_by, most_forwards}
+use Rattle.xv_model.specs.Legal.{answer_by, is_level, legal, most_forwards}
 use Rattle.xv_model.proofs.HalvesLemmas.{pq-skips, asserted-skips, forwards-skips}
 use Rattle.xv_model.proofs.Sums.{sum_below-same, sum_below-more_at, sum_below-zero}
 use Rattle.router.specs.Kept.{Kept}
@@ -37,8 +42,12 @@ use Rattle.xive_cli.specs.Held.{Held}
 use Rattle.xive_cli.specs.Standing.{AreParts, StandsFor, state_of}
 
 -- what is kept of a source is what the account gives
-pub found : (t : Kept) (states : List SourceState) (z : Start) (h : List Entry) (s : ℕ) (w : SourceState) → AreParts t states z h → s < t.board.limits.sources → w ≡ slice_index_or states s w → w ≡ state_of z h s
-found t states z h s w st l e = e ∙ get_or_from_slice_get states s (state_of z h s) w (st.states s (subst (λ b. s < b.limits.sources) st.tables.board l))
+pub found : (t : Kept) (states : List SourceState) (z : Start) (h : List Entry) (s : ℕ) (d : SourceState) → AreParts t states z h → s < t.board.limits.sources → slice_index_or states s d ≡ state_of z h s
+found t states z h s d st l = get_or_from_slice_get states s (state_of z h s) d (st.states s (subst (λ b. s < b.limits.sources) st.tables.board l))
+
+-- no number is in no spans
+pub in_none : (spans : Spans) (n : ℕ) → spans.count ≡ 0 → is_in spans n ≡ false
+in_none spans n e = subst (λ count. list_any (λ span. nat_le span.first n && nat_le n span.last) (take count spans.spans) ≡ false) (sym e) refl
 
 -- the state after an entry that touches its source
 touched : (c : Cell) (o : PqOp) (s : ℕ) (w : SourceState) →
@@ -237,9 +246,80 @@ stands_after m m' z h x st parts count_is out_is notices_are = record {
   notices = let before = st.notices in omega (arith, before, out_is, notices_are);
 }
 
--- a valid operation names a source
+-- what an operation on a source's word answers is legal, on a board whose sources are message sources
+pub word_legal : (t : Kept) (states : List SourceState) (z : Start) (h : List Entry) (s : ℕ) (o : PqOp) (w : SourceState) → AreParts t states z h → IsPlain t.board → w ≡ state_of z h s → outcome_of o w ≡ legal z h (op.Pq s o)
+word_legal t states z h s o w st plain e =
+    let level : is_level z.board s ≡ false = in_none z.board.level s (subst (λ (b : Board). b.level.count ≡ 0) st.tables.board plain.level) in
+    let on : asserted z h s ≡ false = st.never_asserted s in
+    ap (outcome_of o) e ∙ sym (λ i. answer_by (pq_row o (level i) (on i) (pq z h s)) (pq z h s) (forwards z h s))
+
+-- a valid operation on a word names a source, and is built
 pub in_range : (b : Board) (p : Op) (s : ℕ) (o : PqOp) → p ≡ op.Pq s o → valid b p ≡ true → (s < b.limits.sources) × (valid_pq o ≡ true)
 in_range b p s o e v = let both = and_parts (nat_lt s b.limits.sources) (valid_pq o) (subst (λ p. valid b p ≡ true) e v) in (ltb-true s b.limits.sources both.0, both.1)
+
+-- a valid route names a source
+pub route_in_range : (b : Board) (p : Op) (s : ℕ) → p ≡ op.Route s → valid b p ≡ true → s < b.limits.sources
+route_in_range b p s e v = ltb-true s b.limits.sources (subst (λ p. valid b p ≡ true) e v)
+
+-- what an entry does to the parts, and to the notices that are out
+pub record Steps (t : Kept) (states : List SourceState) (t' : Kept) (states' : List SourceState) (z : Start) (h : List Entry) (x : Entry) : Type 0 where
+  pub outcome : x.outcome ≡ legal z h x.op
+  pub parts : AreParts t' states' z (x ∷ h)
+  pub notices : all_outstanding z (x ∷ h) + consumed_in x.outcome ≡ all_outstanding z h + forwarded_in x.outcome
+
+-- an operation on a source's word
+pub word_steps : (t : Kept) (states : List SourceState) (z : Start) (h : List Entry) (s actor : ℕ) (p : Op) (o : PqOp) (d w' : SourceState) (r : Outcome) → AreParts t states z h → IsPlain t.board → length states ≡ t.board.limits.sources →
+    p ≡ op.Pq s o → valid t.board p ≡ true → r ≡ outcome_of o (slice_index_or states s d) → w' ≡ state_after o (slice_index_or states s d) →
+    Steps t states t (slice_set states s w') z h (record { actor = actor; op = p; outcome = r })
+word_steps t states z h s actor p o d w' r st plain n is v g k =
+    let inside = in_range t.board p s o is v in
+    let w = found t states z h s d st inside.0 in
+    let l : s < z.board.limits.sources = subst (λ (b : Board). s < b.limits.sources) st.tables.board inside.0 in
+    let legally : r ≡ legal z h (op.Pq s o) = g ∙ word_legal t states z h s o (slice_index_or states s d) st plain w in
+    let consumes : consumed_in r ≡ 0 = ap consumed_in g ∙ word_consumes (pq_row o false false (slice_index_or states s d).pair) (slice_index_or states s d).pair (slice_index_or states s d).forwards in
+    let out_is = word_notices z h s actor o r l st.forwarded in
+    subst (λ p. Steps t states t (slice_set states s w') z h (record { actor = actor; op = p; outcome = r })) (sym is) (record {
+      outcome = legally;
+      parts = word_parts t states (slice_set states s w') z h s actor o (slice_index_or states s d) w' r st inside.0 n inside.1 w g k refl;
+      notices = omega (arith, consumes, out_is);
+    })
+
+-- a route
+pub route_steps : (t t' : Kept) (states : List SourceState) (z : Start) (h : List Entry) (s actor n : ℕ) (p : Op) (d : SourceState) (r : Outcome) → AreParts t states z h →
+    p ≡ op.Route s → valid t.board p ≡ true → n ≡ (slice_index_or states s d).forwards →
+    (n ≡ forwards z h s → r ≡ route_outcome z h s) → (n ≡ forwards z h s → TablesStandFor t' z (record { actor = actor; op = op.Route s; outcome = r } ∷ h)) →
+    Steps t states t' states z h (record { actor = actor; op = p; outcome = r })
+route_steps t t' states z h s actor n p d r st is v count answers stands =
+    let inside = route_in_range t.board p s is v in
+    let l : s < z.board.limits.sources = subst (λ (b : Board). s < b.limits.sources) st.tables.board inside in
+    let counted : n ≡ forwards z h s = count ∙ ap (λ (w : SourceState). w.forwards) (found t states z h s d st inside) in
+    let answer = answers counted in
+    let quiet : forwarded_in r ≡ 0 = ap forwarded_in answer ∙ route_forwards z h s in
+    let out_is = route_notices z h s actor r answer l in
+    subst (λ p. Steps t states t' states z h (record { actor = actor; op = p; outcome = r })) (sym is) (record {
+      outcome = answer;
+      parts = fabric_parts t t' states z h (record { actor = actor; op = op.Route s; outcome = r }) st refl (stands counted) (routed_within z h s actor r answer st.forwarded);
+      notices = omega (arith, quiet, out_is);
+    })
+
+-- an operation that neither is on a word nor routes
+pub quiet_steps : (t t' : Kept) (states : List SourceState) (z : Start) (h : List Entry) (x : Entry) → AreParts t states z h → access_of z.board x.op ≡ None → route_in x.op x.outcome ≡ None →
+    consumed_in x.outcome ≡ 0 → forwarded_in x.outcome ≡ 0 → x.outcome ≡ legal z h x.op → TablesStandFor t' z (x ∷ h) → Steps t states t' states z h x
+quiet_steps t t' states z h x st none unrouted_here consumes forwards_none answer stands = record {
+  outcome = answer;
+  parts = fabric_parts t t' states z h x st none stands (λ q. subst (λ n. n ≤ forwards z h q) (sym (unrouted z h x unrouted_here q)) (st.forwarded q));
+  notices = let same = quiet_notices z h x none unrouted_here in omega (arith, same, consumes, forwards_none);
+}
+
+-- a SET_SOURCE_CONFIG, which is the hypercall that is valid
+pub call_steps : (t t' : Kept) (states : List SourceState) (z : Start) (h : List Entry) (actor number : ℕ) (args : List ℕ) (p : Op) (reply : HReply) → AreParts t states z h →
+    p ≡ op.Hcall number args → valid t.board p ≡ true → reply ≡ hcall_reply z h args → TablesStandFor t' z (record { actor = actor; op = op.Hcall set_source_config args; outcome = out.Reply reply } ∷ h) →
+    Steps t states t' states z h (record { actor = actor; op = p; outcome = out.Reply reply })
+call_steps t t' states z h actor number args p reply st is v answer stands =
+    let known : number ≡ set_source_config = eqb-true number set_source_config (subst (λ p. valid t.board p ≡ true) is v) in
+    let here : p ≡ op.Hcall set_source_config args = is ∙ ap (λ n. op.Hcall n args) known in
+    subst (λ p. Steps t states t' states z h (record { actor = actor; op = p; outcome = out.Reply reply })) (sym here)
+    (quiet_steps t t' states z h (record { actor = actor; op = op.Hcall set_source_config args; outcome = out.Reply reply }) st refl refl refl refl (ap out.Reply answer) stands)
 
 -- a machine on which nothing has happened
 pub starts : (b : Board) (t : Kept) (states : List SourceState) → TablesStandFor t (start b) [] → states ≡ replicate b.limits.sources (record { pair = 1; forwards = 0 }) → StandsFor (record { tables = t; states = states; count = 0; notices = 0 }) (start b) []

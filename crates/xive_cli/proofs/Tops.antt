@@ -10,7 +10,7 @@ use Rattle.xv_model.specs.Scripts.{Follows, IsBeginning}
 use Rattle.xv_model.proofs.Beginnings.{none, beginning_text}
 use Rattle.xv_model.proofs.OneAccount.{one_account}
 use Rattle.xv_model.proofs.TriggerLaws.{numbered_in_order, each_accounted, comes_again}
-use Rattle.xv_model.proofs.RouteLaws.{routed_in_order, once_forwarded, enters_once}
+use Rattle.xv_model.proofs.RouteLaws.{routed_in_order, once_forwarded, each_enters_once}
 use Rattle.board_script.proofs.Reading.{board_from}
 use Rattle.board_script.specs.declared.stage.Stage.TheVariants.{Work as AtWork}
 use Rattle.xv_io.specs.Gathered.{Puts}
@@ -176,7 +176,7 @@ account_written b i i1 left left1 w k k1 k2 n g p t = record {
   come_again = comes_again b t.account t.legal;
   routed_in_order = routed_in_order b t.account t.legal;
   once_forwarded = once_forwarded b t.account t.legal;
-  enter_once = enters_once b t.account t.legal;
+  enter_once = each_enters_once b t.account t.legal;
   written = puts_all k k2 (account_text b t.account) (after_nothing w [] k k1 k2 (account_text b t.account) p t.puts);
 }
 

@@ -2,6 +2,7 @@
 
 ghost use Rattle.std.specs.Prelude.{◌≡◌, ◌+◌, ◌^◌, ◌<◌, ◌≤◌, ◌∷◌, ℕ, All, length, List, IsTrue};
 ghost use Rattle.xv_model.specs.declared.entries.Entry.{Entry};
+ghost use Rattle.xv_model.specs.Boards.{IsPlain};
 ghost use Rattle.xv_model.specs.Start.{Start};
 ghost use Rattle.xv_model.specs.Notices.{all_outstanding};
 ghost use Rattle.xv_model.specs.Legal.{legal};
@@ -18,6 +19,7 @@ use xv_model::outcomes::Outcome;
 /// What an operation answers. The tables and the records of sources then stand for the account with that entry.
 pub fn answer(tables: &mut Tables, states: &mut [SourceState], op: &Op) -> Outcome
     requires op { IsTrue (valid tables.old.board op.now) }
+    requires plain { IsPlain tables.old.board }
     requires sources { length states.old ≡ tables.old.board.limits.sources }
     requires states { All IsInRange states.old }
     requires room { tables.old.routed < 2 ^ 62 }

@@ -17,7 +17,7 @@ loop-s-preserved g c =
           one_more_text (source_line (start b) h) c.loop-s.s c.args.output.now.writer c.loop-s.output.writer c.put.new.self.writer (g.K.Sink.held c.args.sink.now) (g.K.Sink.held c.loop-s.sink) (g.K.Sink.held c.put.new.sink)
           (c.loop-s.invariant.puts h st)
           (subst (Puts c.loop-s.output.writer (g.K.Sink.held c.loop-s.sink) c.put.new.self.writer (g.K.Sink.held c.put.new.sink))
-          (source_is c.args.machine.now (start b) h c.loop-s.s c.routes.result c.source-state.result st (c.source-state.ensures.value (start b) h st) (c.routes.ensures (start b) h st))
+          (source_is c.args.machine.now (start b) h c.loop-s.s c.routes.result c.source-state.result st (c.source-state.ensures.value (start b) h st) (c.routes.ensures.value (start b) h st))
           (line_put c.loop-s.output.writer c.put.new.self.writer (g.K.Sink.held c.loop-s.sink) (g.K.Sink.held c.put.new.sink) c.clear.new.self.items c.add_source.new.line.items (source_text c.loop-s.s c.source-state.result.pair false c.source-state.result.forwards c.routes.result) c.clear.ensures c.add_source.ensures.items e.ok));
       count = omega (arith, e.count);
     }
@@ -34,5 +34,5 @@ returns-in_err-put-clause-err g c = on_err_anyway c.from_residual.result (λ h s
     texts_prefix (source_line (start b) h) s b.limits.sources c.args.output.now.writer c.loop-s.output.writer (g.K.Sink.held c.args.sink.now) k1 k2 low
     (c.loop-s.invariant.puts h st)
     (subst (λ v. AppendsPrefix k1 k2 (c.loop-s.output.writer ++ v))
-    (source_is c.args.machine.now (start b) h s c.routes.result state st (c.source-state.ensures.value (start b) h st) (c.routes.ensures (start b) h st))
+    (source_is c.args.machine.now (start b) h s c.routes.result state st (c.source-state.ensures.value (start b) h st) (c.routes.ensures.value (start b) h st))
     (line_prefix c.loop-s.output.writer k1 k2 c.clear.new.self.items c.add_source.new.line.items text c.clear.ensures c.add_source.ensures.items (c.in_err-put.ensures {u = tt}).err)))

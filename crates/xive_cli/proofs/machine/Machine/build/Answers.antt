@@ -1,6 +1,6 @@
-use Rattle.std.proofs.Common.{rules}
+use Rattle.std.proofs.Common.{rules, ◌∙◌, ap, subst}
 use Rattle.xive_cli.proofs.Stepping.{starts}
 use Rattle.xive_cli.proofs.machine.Machine.build.Goals as goal
 
-pub returns-in-Ok-clause-stands : goal.returns-in-Ok-clause-stands
-returns-in-Ok-clause-stands c = starts c.args.board.now _ c.requires.plain ((c.in-Ok.ensures {u = tt}).items_if_clones_equal (λ y same. search rules))
+pub returns-clause-stands : goal.returns-clause-stands
+returns-clause-stands c = starts c.args.board.now c.in_ok-build.field-0 c.in_ok-vec.field-0.items (c.in_ok-build.ensures {u = tt}).stands ((c.in_ok-vec.ensures {u = tt}).items_if_clones_equal (λ y same. search rules))

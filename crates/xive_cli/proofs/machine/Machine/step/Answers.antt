@@ -1,18 +1,20 @@
-use Rattle.std.proofs.Common.{◌≡◌, ◌+◌, ◌∷◌, subst, sym, ap, refl, rules, true, slice_set}
-use Rattle.xv_model.specs.declared.operations.Op.{Op}
-use Rattle.xv_model.specs.Validity.{valid}
+use Rattle.std.proofs.Common.{◌∷◌, ◌+◌, ◌-◌, ◌≡◌, List, refl, sym, ◌∙◌, ap, subst}
+use Rattle.std.specs.Vec.{with_items}
+use Rattle.std.proofs.lemmas.List.{with_items_is}
+use Rattle.xv_model.specs.declared.entries.Entry.{Entry}
+use Rattle.xive_cli.specs.declared.state.SourceState.{SourceState}
 use Rattle.xive_cli.specs.Held.{Held}
-use Rattle.xive_cli.specs.Standing.{StandsFor}
-use Rattle.xive_cli.proofs.Stepping.{found, stands_after, in_range}
+use Rattle.xive_cli.specs.States.{forwarded_in}
+use Rattle.xive_cli.specs.Standing.{AreParts, StandsFor}
+use Rattle.xive_cli.proofs.Stepping.{stands_after}
 use Rattle.xive_cli.proofs.machine.Machine.step.Goals as goal
 
 pub returns-clause-stands : goal.returns-clause-stands
 returns-clause-stands c = λ z h before.
-    let m : Held = record { board = c.self.inside.board; states = c.self.inside.states.items; count = c.self.inside.count; notices = c.self.inside.notices } in
     let st = subst (λ (m : Held). StandsFor m z h) (sym c.self.view_is) before in
-    let inside = in_range c.self.inside.board c.args.op.now c.in-Pq.s c.in-Pq.access c.in-Pq.is (subst (λ (m : Held). valid m.board c.args.op.now ≡ true) (sym c.self.view_is) c.requires.op) in
-    let w = found m z h c.in-Pq.s c.index_mut.result.now st inside.0 c.index_mut.ensures.value in
-    let m' : Held = record { board = c.self.inside.board; states = slice_set c.self.inside.states.items c.in-Pq.s c.apply-outcome.new.state; count = c.self.inside.count + 1; notices = c.self.inside.notices + c.notices_of.result } in
-    subst (λ (o : Op). StandsFor m' z (record { actor = c.args.actor; op = o; outcome = c.apply-outcome.result } ∷ h)) (sym c.in-Pq.is)
-    (stands_after m m' z h c.in-Pq.s c.args.actor c.in-Pq.access c.index_mut.result.now c.apply-outcome.new.state c.apply-outcome.result st inside.0 (search rules) inside.1
-    w c.apply-outcome.ensures.outcome c.apply-outcome.ensures.state refl refl refl (ap (λ n. c.self.inside.notices + n) c.notices_of.ensures.value))
+    let inside = subst (λ (ws : List SourceState). AreParts c.self.inside.tables ws z h) (sym c.deref_mut.ensures.value) st.parts in
+    let whole : (with_items c.self.inside.states c.answer-outcome.new.states).items ≡ c.answer-outcome.new.states = with_items_is c.self.inside.states c.answer-outcome.new.states (c.answer-outcome.ensures.len ∙ c.deref_mut.ensures.len) in
+    let x : Entry = record { actor = c.args.actor; op = c.args.op.now; outcome = c.answer-outcome.result } in
+    let parts = subst (λ (ws : List SourceState). AreParts c.answer-outcome.new.tables ws z (x ∷ h)) (sym whole) (c.answer-outcome.ensures.parts z h c.args.actor inside) in
+    stands_after _ _ z h x st parts refl (c.answer-outcome.ensures.notices z h c.args.actor inside)
+    (c.saturating_sub-self-inside.ensures ∙ ap (λ n. c.self.inside.notices + n - c.consumed_by.result) c.notices_of.ensures.value ∙ ap (λ n. c.self.inside.notices + forwarded_in c.answer-outcome.result - n) c.consumed_by.ensures)
