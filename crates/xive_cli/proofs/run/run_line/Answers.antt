@@ -21,7 +21,7 @@ loop-op-preserved g c =
           let r = i.runs z h stands legal in
           one_more_entry (record { actor = c.args.actor; work = c.args.work }) c.loop-op.going c.next.new.self c.loop-op.machine c.make_entry.new.machine c.in-Some.op c.in-Ok.outcome
           c.args.output.now.writer c.loop-op.output.writer c.make_entry.new.output.writer (g.K.Sink.held c.args.sink.now) (g.K.Sink.held c.loop-op.sink) (g.K.Sink.held c.make_entry.new.sink)
-          z h r.0 r.1 r.2 (sym (c.next.ensures.value c.args.work r.0 (r.0 ++ h) r.2 ?) ∙ c.in-Some.is) (λ x e. made c.args.work r.0 x r.2 e)
+          z h r.0 r.1 r.2 (sym (c.next.ensures.value c.args.work r.0 (r.0 ++ h) r.2 (subst (IsLast r.0) (sym c.as_ref.ensures.value) r.3)) ∙ c.in-Some.is) (λ x e. made c.args.work r.0 x r.2 e)
           (subst (λ (b : Board). c.args.actor < b.limits.actors) (sym i.board) c.requires.work.actor_is)
           (subst (λ (b : Board). valid b c.in-Some.op ≡ true) (sym i.board) valid_op)
           makes;
@@ -39,7 +39,7 @@ returns-in-Err-clause-fails g c = λ z h stands legal.
         (still_valid c.args.machine.now.tables.board c.loop-op.going c.args.work i.same_op i.same_follow c.requires.work.valid_steps) in
     let r = i.runs z h stands legal in
     one_failed (record { actor = c.args.actor; work = c.args.work }) c.loop-op.machine c.in-Some.op c.args.output.now.writer c.loop-op.output.writer (g.K.Sink.held c.args.sink.now) (g.K.Sink.held c.loop-op.sink) (g.K.Sink.held c.make_entry.new.sink)
-    z h r.0 r.1 (sym (c.next.ensures.value c.args.work r.0 (r.0 ++ h) r.2 ?) ∙ c.in-Some.is)
+    z h r.0 r.1 (sym (c.next.ensures.value c.args.work r.0 (r.0 ++ h) r.2 (subst (IsLast r.0) (sym c.as_ref.ensures.value) r.3)) ∙ c.in-Some.is)
     (subst (λ (b : Board). c.args.actor < b.limits.actors) (sym i.board) c.requires.work.actor_is)
     (subst (λ (b : Board). valid b c.in-Some.op ≡ true) (sym i.board) valid_op)
     (c.in-Err.ensures {u = tt}).fails
