@@ -1,5 +1,5 @@
 -- What the fabric's definitions say of an account they say of its fabric entries alone.
-use Rattle.std.proofs.Common.{ℕ, ◌≡◌, ◌==◌, ◌+◌, ◌&&◌, ◌≢◌, nat_lt, Bool, true, false, not, cond, if◌then◌else◌, List, [], ◌∷◌, ◌++◌, length, filter, Option, Some, None, refl, sym, ◌∙◌, ap, arith, append-nil, length-append}
+use Rattle.std.proofs.Common.{ℕ, ◌≡◌, ◌==◌, ◌+◌, ◌-◌, ◌&&◌, ◌≢◌, nat_lt, Bool, true, false, not, cond, if◌then◌else◌, List, [], ◌∷◌, ◌++◌, length, filter, Option, Some, None, refl, sym, ◌∙◌, ap, arith, append-nil, length-append}
 use Rattle.std.specs.Option.{option_map_or}
 use Rattle.xv_model.specs.declared.assignments.Assignment.{Assignment}
 use Rattle.xv_model.specs.declared.operations.EndConfig.{EndConfig}
@@ -15,7 +15,7 @@ use Rattle.xv_model.specs.declared.board.Board.{Board}
 use Rattle.xv_model.specs.Start.{Start}
 use Rattle.xv_model.specs.Kinds.{WordAccess, access_of, is_quiet, is_fabric, run_of}
 use Rattle.xv_model.specs.PqTable.{trigger_row}
-use Rattle.xv_model.specs.Notices.{routes, outstanding}
+use Rattle.xv_model.specs.Notices.{forwards, routes, outstanding}
 use Rattle.xv_model.specs.Flags.{is_valid}
 use Rattle.xv_model.specs.Assignments.{source_config, source_config_in, assigned_by, assignment}
 use Rattle.xv_model.specs.Descriptors.{configuration_in, config_at, config_by, end_config, since_config, until_config}
@@ -26,8 +26,8 @@ use Rattle.xv_model.specs.Flight.{origin_of, made_by, messages_by, flight}
 use Rattle.xv_model.specs.Routing.{most_messages, write_by, next_by, end_pass, routed_by, route_outcome}
 use Rattle.xv_model.specs.Hypercalls.{bare_reply, h_parameter, h_p2, h_p3, h_p4, h_success, hcall_reply, is_target}
 use Rattle.xv_model.specs.Legal.{fabric_answer, legal}
-use Rattle.xv_model.specs.Halves.{fabric_of}
-use Rattle.xv_model.proofs.HalvesLemmas.{half, routes-half}
+use Rattle.xv_model.specs.Halves.{words_of, fabric_of}
+use Rattle.xv_model.proofs.HalvesLemmas.{half, forwards-half, routes-half}
 
 -- an operation that isn't the fabric's configures no source
 no_source_config : (b : Board) (o : Op) (u : Outcome) → is_fabric b o ≡ false → source_config_in o u ≡ None
@@ -182,6 +182,12 @@ hcall_reply-half z args h =
 -- what says the same of an account as of its fabric entries says the same of accounts with the same ones
 pub same_fabric : {R : Type 0} (b : Board) (d : List Entry → R) (g h : List Entry) → ((f : List Entry) → d (fabric_of b f) ≡ d f) → fabric_of b g ≡ fabric_of b h → d g ≡ d h
 same_fabric b d g h says same = sym (says g) ∙ ap d same ∙ says h
+
+-- the notices of s that are out are as many after accounts with the same entries on its word and the same fabric entries
+pub outstanding_halves : (z : Start) (g h : List Entry) (s : ℕ) → words_of z.board s g ≡ words_of z.board s h → fabric_of z.board g ≡ fabric_of z.board h → outstanding z g s ≡ outstanding z h s
+outstanding_halves z g h s words same =
+    let forwarded : forwards z g s ≡ forwards z h s = sym (forwards-half z s g) ∙ ap (λ f. forwards z f s) words ∙ forwards-half z s h in
+    λ i. forwarded i - same_fabric z.board (λ f. routes z f s) g h (routes-half z s) same i
 
 -- a route of s answers the same after accounts with the same fabric entries and the same count of notices of s
 pub route_half : (z : Start) (g h : List Entry) (s : ℕ) → fabric_of z.board g ≡ fabric_of z.board h → outstanding z g s ≡ outstanding z h s → route_outcome z g s ≡ route_outcome z h s
