@@ -1,5 +1,5 @@
 -- What the fabric's definitions say of an account they say of its fabric entries alone.
-use Rattle.std.proofs.Common.{ℕ, ◌≡◌, ◌==◌, ◌+◌, ◌&&◌, ◌≢◌, nat_lt, Bool, true, false, not, cond, if◌then◌else◌, List, [], ◌∷◌, ◌++◌, length, filter, Option, Some, None, refl, sym, ◌∙◌, ap, arith, append-nil, length-append}
+use Rattle.std.proofs.Common.{ℕ, ◌≡◌, ◌==◌, ◌+◌, ◌-◌, ◌&&◌, ◌≢◌, nat_lt, Bool, true, false, not, cond, if◌then◌else◌, List, [], ◌∷◌, ◌++◌, length, filter, Option, Some, None, refl, sym, ◌∙◌, ap, append-nil}
 use Rattle.std.specs.Option.{option_map_or}
 use Rattle.xv_model.specs.declared.assignments.Assignment.{Assignment}
 use Rattle.xv_model.specs.declared.operations.EndConfig.{EndConfig}
@@ -15,19 +15,19 @@ use Rattle.xv_model.specs.declared.board.Board.{Board}
 use Rattle.xv_model.specs.Start.{Start}
 use Rattle.xv_model.specs.Kinds.{WordAccess, access_of, is_quiet, is_fabric, run_of}
 use Rattle.xv_model.specs.PqTable.{trigger_row}
-use Rattle.xv_model.specs.Notices.{routes, outstanding}
+use Rattle.xv_model.specs.Notices.{forwards, routes, outstanding}
 use Rattle.xv_model.specs.Flags.{is_valid}
 use Rattle.xv_model.specs.Assignments.{source_config, source_config_in, assigned_by, assignment}
 use Rattle.xv_model.specs.Descriptors.{configuration_in, config_at, config_by, end_config, since_config, until_config}
 use Rattle.xv_model.specs.EventStates.{first_state, ran_at, asks_state, esn, ese}
-use Rattle.xv_model.specs.Written.{wrote_in, payload_of, entered, written, written_count}
+use Rattle.xv_model.specs.Written.{wrote_in, payload_of, written, written_count}
 use Rattle.xv_model.specs.Reading.{taken_count}
 use Rattle.xv_model.specs.Flight.{origin_of, made_by, messages_by, flight}
 use Rattle.xv_model.specs.Routing.{most_messages, write_by, next_by, end_pass, routed_by, route_outcome}
 use Rattle.xv_model.specs.Hypercalls.{bare_reply, h_parameter, h_p2, h_p3, h_p4, h_success, hcall_reply, is_target}
 use Rattle.xv_model.specs.Legal.{fabric_answer, legal}
-use Rattle.xv_model.specs.Halves.{fabric_of}
-use Rattle.xv_model.proofs.HalvesLemmas.{half, routes-half}
+use Rattle.xv_model.specs.Halves.{words_of, fabric_of}
+use Rattle.xv_model.proofs.HalvesLemmas.{half, forwards-half, routes-half}
 
 -- an operation that isn't the fabric's configures no source
 no_source_config : (b : Board) (o : Op) (u : Outcome) → is_fabric b o ≡ false → source_config_in o u ≡ None
@@ -183,6 +183,12 @@ hcall_reply-half z args h =
 pub same_fabric : {R : Type 0} (b : Board) (d : List Entry → R) (g h : List Entry) → ((f : List Entry) → d (fabric_of b f) ≡ d f) → fabric_of b g ≡ fabric_of b h → d g ≡ d h
 same_fabric b d g h says same = sym (says g) ∙ ap d same ∙ says h
 
+-- the notices of s that are out are as many after accounts with the same entries on its word and the same fabric entries
+pub outstanding_halves : (z : Start) (g h : List Entry) (s : ℕ) → words_of z.board s g ≡ words_of z.board s h → fabric_of z.board g ≡ fabric_of z.board h → outstanding z g s ≡ outstanding z h s
+outstanding_halves z g h s words same =
+    let forwarded : forwards z g s ≡ forwards z h s = sym (forwards-half z s g) ∙ ap (λ f. forwards z f s) words ∙ forwards-half z s h in
+    λ i. forwarded i - same_fabric z.board (λ f. routes z f s) g h (routes-half z s) same i
+
 -- a route of s answers the same after accounts with the same fabric entries and the same count of notices of s
 pub route_half : (z : Start) (g h : List Entry) (s : ℕ) → fabric_of z.board g ≡ fabric_of z.board h → outstanding z g s ≡ outstanding z h s → route_outcome z g s ≡ route_outcome z h s
 route_half z g h s same notices =
@@ -209,50 +215,3 @@ legal_fabric_half z g h o is same notices = rw (no_access (access_of z.board o) 
 -- the legal outcome of an operation of the fabric that isn't a route depends on the fabric's entries alone
 pub fabric_half : (z : Start) (g h : List Entry) (o : Op) → is_fabric z.board o ≡ true → ((s : ℕ) → o ≢ op.Route s) → fabric_of z.board g ≡ fabric_of z.board h → legal z g o ≡ legal z h o
 fabric_half z g h o is no_route same = legal_fabric_half z g h o is same (λ s e. absurd (no_route s e))
-
--- whether a route wrote into the queue of e
-abbrev pub wrote_for : ℕ → Op → Outcome → Bool
-wrote_for e (op.Route s) u = option_map_or (λ end. end == e) (wrote_in (run_of (op.Route s) u)) false
-wrote_for e _ u = false
-
--- how many of the entries are routes that wrote into the queue of e
-abbrev pub writes : ℕ → List Entry → ℕ
-writes e [] = 0
-writes e (x ∷ h) = (if wrote_for e x.op x.outcome then 1 else 0) + writes e h
-
--- a payload or none, by a test
-one_or_none : (b : Bool) (n : ℕ) → length (if b then n ∷ [] else []) ≡ (if b then 1 else 0)
-one_or_none true n = refl
-one_or_none false n = refl
-
--- what a route writes, by the END that it wrote for
-writes_by : (e n : ℕ) (m : Option ℕ) → length (option_map_or (λ end. if end == e then n ∷ [] else []) m []) ≡ (if option_map_or (λ end. end == e) m false then 1 else 0)
-writes_by e n None = refl
-writes_by e n (Some end) = one_or_none (end == e) n
-
--- nothing, by a test
-nothing_if : (b : Bool) (ns : List ℕ) → ns ≡ [] → length (if b then ns else []) ≡ 0
-nothing_if true ns e = ap length e
-nothing_if false ns e = refl
-
--- nothing, by the END that it was written for
-nothing_by : (e : ℕ) (m : Option ℕ) (ns : List ℕ) → ns ≡ [] → length (option_map_or (λ end. if end == e then ns else []) m []) ≡ 0
-nothing_by e None ns none = refl
-nothing_by e (Some end) ns none = nothing_if (end == e) ns none
-
--- an operation and its outcome write one payload for e, or none
-entered-length : (z : Start) (h : List Entry) (e : ℕ) (o : Op) (u : Outcome) → length (option_map_or (λ end. if end == e then payload_of z h o else []) (wrote_in (run_of o u)) []) ≡ (if wrote_for e o u then 1 else 0)
-entered-length z h e (op.Route s) u = writes_by e _ (wrote_in (run_of (op.Route s) u))
-entered-length z h e (op.Take i) u = nothing_by e (wrote_in (run_of (op.Take i) u)) [] refl
-entered-length z h e _ u = refl
-
--- one more entry, by whether it configures e
-counts_more : (e : ℕ) (m : Option EndConfig) (ns more : List ℕ) (x : Entry) (since : List Entry) → length ns ≡ writes e since → length more ≡ (if wrote_for e x.op x.outcome then 1 else 0) →
-    length (option_map_or (λ c. []) m (ns ++ more)) ≡ writes e (option_map_or (λ c. []) m (x ∷ since))
-counts_more e (Some c) ns more x since so_far one = refl
-counts_more e None ns more x since so_far one = omega (arith, length-append ns more, one, so_far)
-
--- what was written since the last configuration of e counts the routes since then that wrote for e
-pub written-counts : (z : Start) (h : List Entry) (e : ℕ) → length (written z h e) ≡ writes e (since_config h e)
-written-counts z [] e = refl
-written-counts z (x ∷ h) e = counts_more e (config_by e x) (written z h e) (entered z h x e) x (since_config h e) (written-counts z h e) (entered-length z h e x.op x.outcome)

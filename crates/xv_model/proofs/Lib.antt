@@ -8,3 +8,4 @@ pub mod SmallPairs
 pub mod Sums
 pub mod Touches
 pub mod TriggerLaws
+pub mod WrittenCounts

@@ -1,11 +1,13 @@
 -- What becomes of notices in a legal account.
-use Rattle.std.proofs.Common.{ℕ, ◌≡◌, ◌==◌, ◌+◌, ◌≤◌, Bool, true, false, not, if◌then◌else◌, ◌&&◌, List, [], ◌∷◌, ◌++◌, length, Some, None, refl, sym, ◌∙◌, ap, subst, arith, append_assoc, append-nil}
+use Rattle.std.proofs.Common.{ℕ, ◌≡◌, ◌==◌, ◌+◌, ◌≤◌, Bool, true, false, not, if◌then◌else◌, ◌&&◌, List, [], ◌∷◌, ◌++◌, length, Some, None, refl, sym, ◌∙◌, ap, subst, arith, append_assoc, append-nil, length-append}
 use Rattle.std.proofs.lemmas.Bool.Decides.{nat_tests}
 use Rattle.std.specs.Option.{option_map_or}
+use Rattle.xv_model.specs.declared.operations.EndConfig.{EndConfig}
 use Rattle.xv_model.specs.declared.operations.Op.{Op}
 use Rattle.xv_model.specs.declared.operations.Op.TheVariants as op
 use Rattle.xv_model.specs.declared.outcomes.Wrote.{Wrote}
 use Rattle.xv_model.specs.declared.outcomes.Then.{Then}
+use Rattle.xv_model.specs.declared.outcomes.Then.TheVariants.{Coalesced, Silent, Present, Escalate}
 use Rattle.xv_model.specs.declared.outcomes.EndRun.TheVariants as run
 use Rattle.xv_model.specs.declared.outcomes.Routed.{Routed}
 use Rattle.xv_model.specs.declared.outcomes.Routed.TheVariants.{NoSource, Masked, Run}
@@ -22,7 +24,7 @@ use Rattle.xv_model.specs.Descriptors.{end_config}
 use Rattle.xv_model.specs.EventStates.{esn}
 use Rattle.xv_model.specs.Written.{wrote_in, payload_of, entered, written, written_count}
 use Rattle.xv_model.specs.Memory.{wrote_at}
-use Rattle.xv_model.specs.Flight.{flight}
+use Rattle.xv_model.specs.Flight.{origin_of, messages_by, made_by, flight}
 use Rattle.xv_model.specs.Routing.{most_messages, next_by, routed_by, route_outcome}
 use Rattle.xv_model.specs.Triggers.{down_from}
 use Rattle.xv_model.specs.Legal.{IsLegal, IsNext, legal}
@@ -96,6 +98,41 @@ routes_within_from z (x ∷ h) s l w =
 -- the routes of a source are at most its forwards in a legal account of a board
 pub routes_within : (b : Board) (h : List Entry) → IsLegal (start b) h → (s : ℕ) → routes (start b) h s ≤ forwards (start b) h s
 routes_within b h l s = routes_within_from (start b) h s l (omega arith)
+
+-- the notices of a source that are out and those that were routed are its forwards
+pub notices_add : (z : Start) (h : List Entry) (s : ℕ) → IsLegal z h → z.routes s ≤ z.forwards s → outstanding z h s + routes z h s ≡ forwards z h s
+notices_add z h s l w = let few = routes_within_from z h s l w in omega arith
+
+-- a run that goes on so makes one message at most
+one_message : (next : Then) (e : ℕ) (c : EndConfig) (s : ℕ) → length (messages_by next e c s) ≤ 1
+one_message Present e c s = omega arith
+one_message Escalate e c s = omega arith
+one_message Coalesced e c s = omega arith
+one_message Silent e c s = omega arith
+
+-- one more entry leaves the messages few enough
+room : (z : Start) (h : List Entry) (n : ℕ) (o : Op) (u : Outcome) → ((s k : ℕ) (r : Routed) → o ≡ op.Route s → u ≡ out.Routed k r → n + 1 ≤ most_messages) → n ≤ most_messages → n + length (made_by z h (origin_of o) (run_of o u)) ≤ most_messages
+room z h n (op.Route s) (out.Routed k (Run (run.Ran e wrote next))) w l =
+    let one = one_message next e (end_config z h e) s in
+    let free = w s k _ refl refl in
+    omega arith
+room z h n (op.Route s) _ w l = omega arith
+room z h n _ u w l = omega arith
+
+-- where a route routed a notice there is room for a message
+routed_room : (z : Start) (h : List Entry) (s k : ℕ) (r : Routed) → route_outcome z h s ≡ out.Routed k r → length (flight z h) ≤ most_messages → length (flight z h) + 1 ≤ most_messages
+routed_room z h s k r e l =
+    let t = routed_number_by (outstanding z h s == 0) (length (flight z h) == most_messages) (routes z h s + 1) k _ r e in
+    let free = t.1 in
+    grind (arith, nat_tests)
+
+-- the messages in flight are at most 4,096 in a legal account, where they are so in the start record
+pub flight_within : (z : Start) (h : List Entry) → IsLegal z h → length z.flight ≤ most_messages → length (flight z h) ≤ most_messages
+flight_within z [] l w = w
+flight_within z (x ∷ h) l w =
+    let before : length (flight z h) ≤ most_messages = flight_within z h l.0 w in
+    let now = room z h (length (flight z h)) x.op x.outcome (λ s k r e f. routed_room z h s k r (sym (route_answer z h x s l.1 e) ∙ f) before) before in
+    omega (arith, length-append (flight z h) (made_by z h (origin_of x.op) (run_of x.op x.outcome)), now)
 
 -- an entry that has a route number of s is a route of s that routed a notice
 pub route_number-is : (s k : ℕ) (o : Op) (u : Outcome) → route_number s o u ≡ k ∷ [] → (r : Routed) × (o ≡ op.Route s) × (u ≡ out.Routed k r)
