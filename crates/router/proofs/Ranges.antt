@@ -1,19 +1,17 @@
 -- What stays in range.
-use Rattle.std.proofs.Common.{ℕ, ◌≡◌, ◌<◌, ◌≤◌, ◌+◌, ◌*◌, ◌==◌, Bool, true, false, if◌then◌else◌, List, length, refl, ◌∙◌, arith, slice_set}
-use Rattle.std.specs.Prelude.{◌&&◌, ◌^◌, ◌%◌, nat_le, All}
-use Rattle.std.proofs.lemmas.Bool.{and_parts, eqb-true}
+use Rattle.std.proofs.Common.{ℕ, ◌≡◌, ◌<◌, ◌≤◌, ◌+◌, Bool, true, false, if◌then◌else◌, List, length, arith, slice_set}
+use Rattle.std.specs.Prelude.{All}
 use Rattle.std.proofs.lemmas.Bool.Decides.{nat_tests}
 use Rattle.std.proofs.lemmas.List.Elements.{All-set, All-get_or}
 use Rattle.xv_model.specs.declared.assignments.Assignment.{Assignment}
 use Rattle.xv_model.specs.declared.board.Board.{Board}
 use Rattle.xv_model.specs.declared.operations.EndConfig.{EndConfig}
-use Rattle.xv_model.specs.Boards.{IsBoard}
 use Rattle.xv_model.specs.Flags.{is_valid, enqueues}
 use Rattle.xv_model.specs.PqTable.{trigger_row}
 use Rattle.xv_model.specs.EventStates.{asks_state}
-use Rattle.xv_model.specs.Validity.{valid_config, has_queue, is_queue, is_queue_shift, ram_size, notifies_one, has_nothing}
+use Rattle.xv_model.specs.Validity.{valid_config}
 use Rattle.router.specs.declared.ends.EndRecord.{EndRecord}
-use Rattle.router.specs.Range.{IsEnd, IsNarrow, HasWrittenAtMost}
+use Rattle.router.specs.Range.{IsEnd, HasWrittenAtMost}
 use Rattle.router.specs.Runs.{first_end, end_in, configured, enqueued, notified, after_run, runs, ends_after}
 
 small_first : (valid : Bool) → (if valid then 0 else 1) < 4
@@ -66,24 +64,3 @@ ends_written n ends a l all = by (runs a)
     by : (going : Bool) → All (HasWrittenAtMost (n + 1)) (if going then slice_set ends a.end (after_run (end_in ends a.end)) else ends)
     by true = All-set (HasWrittenAtMost (n + 1)) ends a.end (after_run (end_in ends a.end)) (after_run_written n (end_in ends a.end) (All-get_or (HasWrittenAtMost n) ends a.end first_end l all)) more
     by false = more
-
-shift_in_range : (shift : ℕ) → is_queue_shift shift ≡ true → (2 ≤ shift) × (shift ≤ 24)
-shift_in_range shift e = grind (arith, nat_tests)
-
-addr_in_range : (addr size mib : ℕ) → mib ≤ 64 → nat_le (addr + size) (mib * 1048576) ≡ true → addr ≤ 67108864
-addr_in_range addr size mib few e = grind (arith, nat_tests)
-
--- where there is a queue, it is one of the board's
-queue_of : (b : Board) (c : EndConfig) (writes : Bool) → enqueues c ≡ writes → has_queue b c ≡ true → writes ≡ true → is_queue b c.qaddr c.qshift ≡ true
-queue_of b c writes e v is_true = rw (e ∙ is_true) at v
-
--- the queue of a valid configuration
-pub narrow : (b : Board) (c : EndConfig) → IsBoard b → valid_config b c ≡ true → IsNarrow c
-narrow b c board v =
-    let all = and_parts (c.start == 0) (has_queue b c && (if is_valid c then notifies_one b c else has_nothing c)) v in
-    let queue = (and_parts (has_queue b c) (if is_valid c then notifies_one b c else has_nothing c) all.1).0 in
-    record {
-      start = eqb-true c.start 0 all.0;
-      shift = λ q. shift_in_range c.qshift (and_parts (is_queue_shift c.qshift) ((c.qaddr % 2 ^ c.qshift == 0) && nat_le (c.qaddr + 2 ^ c.qshift) (ram_size b)) (queue_of b c true q queue refl)).0;
-      addr = λ q. addr_in_range c.qaddr (2 ^ c.qshift) b.ram_mib board.ram_mib (and_parts (c.qaddr % 2 ^ c.qshift == 0) (nat_le (c.qaddr + 2 ^ c.qshift) (ram_size b)) (and_parts (is_queue_shift c.qshift) ((c.qaddr % 2 ^ c.qshift == 0) && nat_le (c.qaddr + 2 ^ c.qshift) (ram_size b)) (queue_of b c true q queue refl)).1).1;
-    }

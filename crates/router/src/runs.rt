@@ -1,6 +1,6 @@
 //! Runs of ENDs: what is written into a queue, how it goes on, and the message that it makes.
 
-ghost use Rattle.std.specs.Prelude.{◌≡◌, ◌<◌, ◌≤◌, ◌+◌, ◌^◌, ◌∷◌, ◌++◌, [], vec_len, vec_capacity};
+ghost use Rattle.std.specs.Prelude.{ℕ, ◌≡◌, ◌<◌, ◌≤◌, ◌+◌, ◌^◌, ◌∷◌, ◌++◌, [], vec_len, vec_capacity};
 ghost use Rattle.xv_model.specs.Routing.{next_by, write_by};
 ghost use Rattle.router.specs.Range.{IsNarrow};
 ghost use Rattle.router.specs.Runs.{end_in, enqueued, notified, after_run, run_by, made_for, routed_in, ends_after, messages_after};
@@ -141,8 +141,8 @@ pub(crate) fn deal(
     assignment: &Assignment,
 ) -> Routed
     requires end { assignment.now.end < vec_len ends.old }
-    requires queue { IsNarrow (end_in ends.old.items assignment.now.end).config }
-    requires written { (end_in ends.old.items assignment.now.end).written < 2 ^ 62 }
+    requires queues { (e : ℕ) → e < vec_len ends.old → IsNarrow (end_in ends.old.items e).config }
+    requires written { (e : ℕ) → e < vec_len ends.old → (end_in ends.old.items e).written < 2 ^ 62 }
     requires payload { assignment.now.eisn < 2 ^ 31 }
     requires room { vec_len messages.old < vec_capacity messages.old }
     ensures routed { result ≡ routed_in ends.old.items assignment.now }

@@ -8,7 +8,7 @@ ghost use Rattle.xv_model.specs.Notices.{routes as routes_of};
 ghost use Rattle.xv_model.specs.Assignments.{initialised as is_initialised};
 ghost use Rattle.router.specs.First.{AreFirst};
 ghost use Rattle.router.specs.Standing.{StandsFor, end_of};
-ghost use Rattle.router.specs.Range.{IsEnd};
+ghost use Rattle.router.specs.Range.{IsEnd, HasWrittenAtMost};
 
 use crate::ends::EndRecord;
 use std::alloc::Global;
@@ -128,6 +128,7 @@ impl Tables {
         requires { e < 8 * self.now.board.limits.processors }
         ensures value { (z : Start) (h : List Entry) → StandsFor self.now z h → result.now ≡ end_of z h e }
         ensures in_range { IsEnd self.now.board result.now }
+        ensures written { HasWrittenAtMost self.now.routed result.now }
     {
         &self.ends[e as usize]
     }
@@ -135,6 +136,7 @@ impl Tables {
     /// How many messages are in flight, at most 4,096.
     pub fn flight(&self) -> u32
         ensures value { result ≡ length self.now.messages }
+        ensures few { result ≤ 4096 }
     {
         self.messages.len() as u32
     }
