@@ -254,3 +254,129 @@ fn too_long(rt: HostRuntime) -> Result<(), Fail> {
     assert_eq!(rt; sink.held(), b"too-long\n".as_slice());
     Ok(())
 }
+
+/// A board of three sources, the last one unclaimed, whose notices go nowhere, and an END without a queue.
+const NOWHERE: &[u8] =
+    b"board 1\nsources 3\nprocessors 1\nthreads 1\nram 0\nactors 2\nesb 2 0\nunclaimed 2 2\ngo\n0 set 0 00\n0 fire 0\n0 hcall 0x3ac 0x2 0x1 0x0 0x5 0x11\n0 set 1 00\n0 fire 1\n0 set 2 00\n0 fire 2\n0 route 2\n0 hcall 0x3ac 0x2 0x1 0x0 0x6 0x12\n0 endset 6 vb 0 6 0x0 0 0 0x0\n0 trigger 1\n0 finish 1\nend\n";
+
+#[test]
+fn routes(rt: HostRuntime) -> Result<(), Fail> {
+    let done = Status::Done;
+    compare(
+        &rt,
+        rt.alloc(),
+        b"board 1\nsources 1\nprocessors 1\nthreads 1\nram 1\nactors 2\nesb 2 0\ngo\n0 endset 0 vq 0 0 0x1000 12 0 0x0\n0 hcall 0x3ac 0x2 0x0 0x0 0x0 0x10\n0 set 0 00\n0 trigger 0\n0 route 0\n0 eoi 0\n0 trigger 0\n0 route 0\n",
+        done,
+        &[
+            b"xive-account 1\nsources 1\nprocessors 1\nthreads 1\nram 1\nactors 2\nesb 2 0\ngo\n",
+            b"0 0 endset 0 vq 0 0 0x1000 12 0 0x0 -> ok\n1 0 hcall 0x3ac 0x2 0x0 0x0 0x0 0x10 -> code 0\n2 0 set 0 00 -> 01 00\n",
+            b"3 0 trigger 0 -> 00 10 forward 1\n4 0 route 0 -> 1 end 0 wrote 0x1000 0x80000010 present\n5 0 eoi 0 -> 10 00\n",
+            b"6 0 trigger 0 -> 00 10 forward 2\n7 0 route 0 -> 2 end 0 wrote 0x1004 0x80000010 coalesced\n",
+            b"end 8\nsource 0 10 2 2\nqueue 0 vq 2 0 11 00\nprocessor 0 saved 0x0 0x0 0x0\nring 0 0x0 0x0 0x0 0xff 0x0\nflight 1\nnotices 0\ndone\n",
+        ],
+    )?;
+    compare(
+        &rt,
+        rt.alloc(),
+        NOWHERE,
+        done,
+        &[
+            b"xive-account 1\nsources 3\nprocessors 1\nthreads 1\nram 0\nactors 2\nesb 2 0\nunclaimed 2 2\ngo\n",
+            b"0 0 set 0 00 -> 01 00\n1 0 trigger 0 -> 00 10 forward 1\n2 0 route 0 -> 1 masked\n3 0 hcall 0x3ac 0x2 0x1 0x0 0x5 0x11 -> code 0\n",
+            b"4 0 set 1 00 -> 01 00\n5 0 trigger 1 -> 00 10 forward 1\n6 0 route 1 -> 1 end 5 no-end\n7 0 set 2 00 -> 01 00\n",
+            b"8 0 trigger 2 -> 00 10 forward 1\n9 0 route 2 -> 1 no-source\n10 0 route 2 -> no-notice\n11 0 hcall 0x3ac 0x2 0x1 0x0 0x6 0x12 -> code 0\n",
+            b"12 0 endset 6 vb 0 6 0x0 0 0 0x0 -> ok\n13 0 trigger 1 -> 10 11\n14 0 eoi 1 -> 11 10 forward 2\n15 0 route 1 -> 2 end 6 unwritten present\n",
+            b"end 16\nsource 0 10 1 1\nsource 1 10 2 2\nsource 2 10 1 1\nqueue 6 vb 0 0 10 00\nprocessor 0 saved 0x0 0x0 0x0\nring 0 0x0 0x0 0x0 0xff 0x0\nflight 1\nnotices 0\ndone\n",
+        ],
+    )
+}
+
+const ONE_SOURCE: &[u8] =
+    b"board 1\nsources 1\nprocessors 1\nthreads 1\nram 1\nactors 1\nesb 2 0\ngo\n";
+
+/// The account of `ONE_SOURCE` begins so.
+const ONE_SOURCE_ACCOUNT: &str =
+    "xive-account 1\nsources 1\nprocessors 1\nthreads 1\nram 1\nactors 1\nesb 2 0\ngo\n";
+
+/// Runs `ONE_SOURCE` with a configuration of END 0, to which the source is routed with the payload 0x10, then
+/// `fire` and `finish` so often, and then some more lines. Compares the account, in which the routes say what
+/// `run` says of their number, from 0 on, and which ends so.
+fn compare_events<F: Fn(u64) -> Result<String, Fail>>(
+    rt: &impl Abort,
+    alloc: Global,
+    flags: &str,
+    queue: &str,
+    events: u64,
+    last: &[u8],
+    run: F,
+    end: &str,
+) -> Result<(), Fail> {
+    let mut script = Vec::new(alloc);
+    script.extend_from_slice(ONE_SOURCE)?;
+    script.extend_from_slice(
+        format!(in alloc; "0 endset 0 {flags} 0 0 {queue} 0 0x0\n0 hcall 0x3ac 0x2 0x0 0x0 0x0 0x10\n0 set 0 00\n")?
+            .as_bytes(),
+    )?;
+    let mut wanted = Vec::new(alloc);
+    wanted.extend_from_slice(ONE_SOURCE_ACCOUNT.as_bytes())?;
+    wanted.extend_from_slice(
+        format!(in alloc; "0 0 endset 0 {flags} 0 0 {queue} 0 0x0 -> ok\n1 0 hcall 0x3ac 0x2 0x0 0x0 0x0 0x10 -> code 0\n2 0 set 0 00 -> 01 00\n")?
+            .as_bytes(),
+    )?;
+    for i in 0..events {
+        script.extend_from_slice(b"0 fire 0\n0 finish 0\n")?;
+        let index = 3 + 3 * i;
+        let text = run(i)?;
+        wanted.extend_from_slice(
+            format!(in alloc; "{} 0 trigger 0 -> 00 10 forward {}\n{} 0 route 0 -> {} end 0 {text}\n{} 0 eoi 0 -> 10 00\n", index, i + 1, index + 1, i + 1, index + 2)?
+                .as_bytes(),
+        )?;
+    }
+    script.extend_from_slice(last)?;
+    wanted.extend_from_slice(end.as_bytes())?;
+    let (status, sink) = run_script(alloc, script.as_slice(), 4096, 1 << 20, NONE, NONE)?;
+    assert_eq!(rt; sink.held(), wanted.as_slice());
+    assert_eq!(rt; status, Status::Done);
+    Ok(())
+}
+
+#[test]
+fn wrapping_queue(rt: HostRuntime) -> Result<(), Fail> {
+    let alloc = rt.alloc();
+    compare_events(
+        &rt,
+        alloc,
+        "vqn",
+        "0x1000 12",
+        2049,
+        b"end\n",
+        |i| {
+            let addr = 0x1000 + 4 * (i % 1024);
+            let word = if i / 1024 % 2 == 0 {
+                0x8000_0010u64
+            } else {
+                0x10
+            };
+            Ok(format!(in alloc; "wrote 0x{addr:x} 0x{word:x} present")?)
+        },
+        "end 6150\nsource 0 00 2049 2049\nqueue 0 vqn 2049 0 00 00\nprocessor 0 saved 0x0 0x0 0x0\nring 0 0x0 0x0 0x0 0xff 0x0\nflight 2049\nnotices 0\ndone\n",
+    )
+}
+
+#[test]
+fn full_bus(rt: HostRuntime) -> Result<(), Fail> {
+    let alloc = rt.alloc();
+    compare_events(
+        &rt,
+        alloc,
+        "vnb",
+        "0x0 0",
+        4096,
+        b"0 trigger 0\n0 route 0\n0 finish 0\n0 fire 0\n",
+        |i| {
+            let _ = i;
+            Ok(format!(in alloc; "unwritten present")?)
+        },
+        "12291 0 trigger 0 -> 00 10 forward 4097\n12292 0 route 0 -> bus-full\n12293 0 eoi 0 -> 10 00\n12294 0 trigger 0 -> 00 10 forward 4098\n12295 0 route 0 -> bus-full\nend 12296\nsource 0 10 4098 4096\nqueue 0 vnb 0 0 00 00\nprocessor 0 saved 0x0 0x0 0x0\nring 0 0x0 0x0 0x0 0xff 0x0\nflight 4096\nnotices 2\ndone\n",
+    )
+}
