@@ -79,5 +79,5 @@ pub ranges_more : (name old now new : List ℕ) (xs : List Span) (i : ℕ) (d : 
 ranges_more name old now new xs i d l before line =
     let x = slice_index_or xs i d in
     let texts : ranges_text name (take (i + 1) xs) ≡ ranges_text name (take i xs) ++ range_line name x =
-        ap (ranges_text name) (one_taken xs i d l) ∙ ranges_both name (take i xs) (x ∷ []) ∙ ap (λ v. ranges_text name (take i xs) ++ v) (append-nil (range_line name x)) in
+    ap (ranges_text name) (one_taken xs i d l) ∙ ranges_both name (take i xs) (x ∷ []) ∙ ap (λ v. ranges_text name (take i xs) ++ v) (append-nil (range_line name x)) in
     line ∙ ap (λ v. v ++ range_line name x) before ∙ append_assoc old (ranges_text name (take i xs)) (range_line name x) ∙ ap (λ v. old ++ v) (sym texts)

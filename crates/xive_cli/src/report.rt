@@ -25,7 +25,13 @@ fn put_sources<K: Sink>(machine: &Machine, output: &mut Output, sink: &mut K) ->
     for s in 0..machine.board().limits.sources {
         let state = machine.source(s);
         output.line.clear();
-        add_source(&mut output.line, s, state.pair, state.forwards, machine.routes(s));
+        add_source(
+            &mut output.line,
+            s,
+            state.pair,
+            state.forwards,
+            machine.routes(s),
+        );
         output.put(sink)?;
     }
     Ok(())

@@ -313,24 +313,27 @@ fn compare_events<F: Fn(u64) -> Result<String, Fail>>(
 ) -> Result<(), Fail> {
     let mut script = Vec::new(alloc);
     script.extend_from_slice(ONE_SOURCE)?;
-    script.extend_from_slice(
-        format!(in alloc; "0 endset 0 {flags} 0 0 {queue} 0 0x0\n0 hcall 0x3ac 0x2 0x0 0x0 0x0 0x10\n0 set 0 00\n")?
-            .as_bytes(),
-    )?;
+    script.extend_from_slice(format!(in alloc;
+        "0 endset 0 {flags} 0 0 {queue} 0 0x0\n0 hcall 0x3ac 0x2 0x0 0x0 0x0 0x10\n0 set 0 00\n"
+    )?.as_bytes())?;
     let mut wanted = Vec::new(alloc);
     wanted.extend_from_slice(ONE_SOURCE_ACCOUNT.as_bytes())?;
-    wanted.extend_from_slice(
-        format!(in alloc; "0 0 endset 0 {flags} 0 0 {queue} 0 0x0 -> ok\n1 0 hcall 0x3ac 0x2 0x0 0x0 0x0 0x10 -> code 0\n2 0 set 0 00 -> 01 00\n")?
-            .as_bytes(),
-    )?;
+    wanted.extend_from_slice(format!(in alloc;
+        "0 0 endset 0 {flags} 0 0 {queue} 0 0x0 -> ok\n1 0 hcall 0x3ac 0x2 0x0 0x0 0x0 0x10 -> code 0\n2 0 set 0 00 -> 01 00\n"
+    )?.as_bytes())?;
     for i in 0..events {
         script.extend_from_slice(b"0 fire 0\n0 finish 0\n")?;
         let index = 3 + 3 * i;
         let text = run(i)?;
-        wanted.extend_from_slice(
-            format!(in alloc; "{} 0 trigger 0 -> 00 10 forward {}\n{} 0 route 0 -> {} end 0 {text}\n{} 0 eoi 0 -> 10 00\n", index, i + 1, index + 1, i + 1, index + 2)?
-                .as_bytes(),
-        )?;
+        wanted.extend_from_slice(format!(in alloc;
+            "{} 0 trigger 0 -> 00 10 forward {}\n{} 0 route 0 -> {} end 0 {text}\n{} 0 eoi 0 -> 10 00\n",
+            index,
+            i + 1,
+            index + 1,
+            i + 1,
+            index + 2
+        )?
+        .as_bytes())?;
     }
     script.extend_from_slice(last)?;
     wanted.extend_from_slice(end.as_bytes())?;

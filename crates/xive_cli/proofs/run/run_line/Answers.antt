@@ -14,7 +14,7 @@ loop-op-preserved g c =
     let made = subst (λ o. IfSome o (λ op. (w : Work) (part : List Entry) (x : Entry) → HasMade c.loop-op.going w part → x.op ≡ op → HasMade c.next.new.self w (x ∷ part))) c.in-Some.is c.next.ensures.made in
     let falls = subst (λ o. IfSome o (λ op. steps_left c.next.new.self < steps_left c.loop-op.going)) c.in-Some.is c.next.ensures.falls in
     let valid_op = subst (λ o. IfSome o (λ op. (b : Board) → HasValidSteps b c.loop-op.going → valid b op ≡ true)) c.in-Some.is c.next.ensures.valid c.args.machine.now.tables.board
-        (still_valid c.args.machine.now.tables.board c.loop-op.going c.args.work i.same_op i.same_follow c.requires.work.valid_steps) in
+    (still_valid c.args.machine.now.tables.board c.loop-op.going c.args.work i.same_op i.same_follow c.requires.work.valid_steps) in
     let makes = (c.in-Ok.ensures {u = tt}).makes in
     record {
       runs = λ z h stands legal.
@@ -36,7 +36,7 @@ pub returns-in-Err-clause-fails : goal.returns-in-Err-clause-fails
 returns-in-Err-clause-fails g c = λ z h stands legal.
     let i = c.loop-op.invariant in
     let valid_op = subst (λ o. IfSome o (λ op. (b : Board) → HasValidSteps b c.loop-op.going → valid b op ≡ true)) c.in-Some.is c.next.ensures.valid c.args.machine.now.tables.board
-        (still_valid c.args.machine.now.tables.board c.loop-op.going c.args.work i.same_op i.same_follow c.requires.work.valid_steps) in
+    (still_valid c.args.machine.now.tables.board c.loop-op.going c.args.work i.same_op i.same_follow c.requires.work.valid_steps) in
     let r = i.runs z h stands legal in
     one_failed (record { actor = c.args.actor; work = c.args.work }) c.loop-op.machine c.in-Some.op c.args.output.now.writer c.loop-op.output.writer (g.K.Sink.held c.args.sink.now) (g.K.Sink.held c.loop-op.sink) (g.K.Sink.held c.make_entry.new.sink)
     z h r.0 r.1 (sym (c.next.ensures.value c.args.work r.0 (r.0 ++ h) r.2 (subst (IsLast r.0) (sym c.as_ref.ensures.value) r.3)) ∙ c.in-Some.is)
