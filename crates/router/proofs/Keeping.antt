@@ -1,10 +1,9 @@
--- Entries that leave what the tables stand for.
+-- Entries on a source's word leave what the tables stand for.
 use Rattle.std.proofs.Common.{ℕ, ◌≡◌, ◌+◌, List, [], ◌∷◌, ◌++◌, length, Some, sym, ◌∙◌, ap, arith}
 use Rattle.std.proofs.lemmas.List.{append-nil}
 use Rattle.xv_model.specs.declared.operations.PqOp.{PqOp}
 use Rattle.xv_model.specs.declared.operations.Op.TheVariants as op
 use Rattle.xv_model.specs.declared.outcomes.Outcome.{Outcome}
-use Rattle.xv_model.specs.declared.outcomes.Outcome.TheVariants as out
 use Rattle.xv_model.specs.declared.entries.Entry.{Entry}
 use Rattle.xv_model.specs.Start.{Start}
 use Rattle.xv_model.specs.Descriptors.{end_config, until_config}
@@ -23,27 +22,6 @@ nothing_entered z h e = ap (λ ws. let r : EndRecord = record { config = end_con
 -- an entry on a source's word leaves what the tables stand for
 pub word_keeps : (t : Kept) (z : Start) (h : List Entry) (s actor : ℕ) (o : PqOp) (r : Outcome) → StandsFor t z h → StandsFor t z (record { actor = actor; op = op.Pq s o; outcome = r } ∷ h)
 word_keeps t z h s actor o r st = record {
-  board = st.board;
-  assignments = st.assignments;
-  routes = λ q l. st.routes q l ∙ ap Some (omega arith);
-  ends = λ e l. st.ends e l ∙ ap Some (sym (nothing_entered z h e));
-  messages = st.messages ∙ sym (append-nil (flight z h));
-  connected = st.connected;
-}
-
--- so does a route that changes nothing
-pub no_notice_keeps : (t : Kept) (z : Start) (h : List Entry) (s actor : ℕ) → StandsFor t z h → StandsFor t z (record { actor = actor; op = op.Route s; outcome = out.NoNotice } ∷ h)
-no_notice_keeps t z h s actor st = record {
-  board = st.board;
-  assignments = st.assignments;
-  routes = λ q l. st.routes q l ∙ ap Some (omega arith);
-  ends = λ e l. st.ends e l ∙ ap Some (sym (nothing_entered z h e));
-  messages = st.messages ∙ sym (append-nil (flight z h));
-  connected = st.connected;
-}
-
-pub bus_full_keeps : (t : Kept) (z : Start) (h : List Entry) (s actor : ℕ) → StandsFor t z h → StandsFor t z (record { actor = actor; op = op.Route s; outcome = out.BusFull } ∷ h)
-bus_full_keeps t z h s actor st = record {
   board = st.board;
   assignments = st.assignments;
   routes = λ q l. st.routes q l ∙ ap Some (omega arith);

@@ -99,17 +99,6 @@ assigned_stands t z h args actor a r st ok l e =
       connected = st.connected;
     }
 
-pub refused_stands : (t : Kept) (z : Start) (h : List Entry) (args : List ℕ) (actor : ℕ) (r : HReply) → StandsFor t z h → is_success r.code ≡ false →
-    StandsFor t z (record { actor = actor; op = op.Hcall set_source_config args; outcome = out.Reply r } ∷ h)
-refused_stands t z h args actor r st fails = record {
-  board = st.board;
-  assignments = λ s l. rw fails (st.assignments s l);
-  routes = λ q l. st.routes q l ∙ ap Some (omega arith);
-  ends = λ j l. st.ends j l ∙ ap Some (sym (nothing_entered z h j));
-  messages = st.messages ∙ sym (append-nil (flight z h));
-  connected = st.connected;
-}
-
 -- Routes.
 
 -- how many entries a run of e writes for j

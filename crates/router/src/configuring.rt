@@ -11,7 +11,6 @@ ghost use Rattle.xv_model.specs.Validity.{valid_config};
 ghost use Rattle.router.specs.Accepted.{IsAccepted};
 ghost use Rattle.router.specs.Standing.{StandsFor};
 
-use crate::ends::EndRecord;
 use crate::tables::Tables;
 use xv_model::assignments::Assignment;
 use xv_model::operations::EndConfig;
@@ -80,7 +79,7 @@ impl Tables {
         ensures board { self.new.board ≡ self.old.board }
         ensures routed { self.new.routed ≡ self.old.routed }
     {
-        self.ends[e as usize] = EndRecord::configured(config);
+        self.ends[e as usize].configure(config);
     }
 
     /// The hypercall SET_SOURCE_CONFIG (0x3ac), by its arguments: flags (1 masks, 2 gives the payload), source,

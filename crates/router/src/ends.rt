@@ -1,7 +1,7 @@
 //! What is kept of an END.
 
 ghost use Rattle.std.specs.Prelude.{◌≡◌};
-ghost use Rattle.router.specs.Runs.{configured as configured_by};
+ghost use Rattle.router.specs.Runs.{configured};
 
 use bitflags::Flags;
 use xv_model::operations::{EndConfig, EndFlags};
@@ -21,30 +21,21 @@ pub struct EndRecord {
 }
 
 impl EndRecord {
-    /// How an END starts.
-    pub(crate) const FIRST: EndRecord = EndRecord {
-        config: EndConfig::OFF,
-        written: 0,
-        taken: 0,
-        esn: 1,
-        ese: 1,
-    };
-
-    /// An END that is told this: its counts begin anew, and so do its states.
-    pub(crate) fn configured(config: &EndConfig) -> EndRecord
-        ensures { result ≡ configured_by config.now }
+    /// Tells an END what to do: its counts begin anew, and so do its states.
+    pub(crate) fn configure(&mut self, config: &EndConfig)
+        ensures { self.new ≡ configured config.now }
     {
         let state = if config.flags.contains(EndFlags::VALID) {
             0
         } else {
             1
         };
-        EndRecord {
+        *self = EndRecord {
             config: *config,
             written: 0,
             taken: 0,
             esn: state,
             ese: state,
-        }
+        };
     }
 }

@@ -17,6 +17,7 @@ use xv_base::NoMemory;
 use xv_model::assignments::Assignment;
 use xv_model::board::Board;
 use xv_model::messages::Message;
+use xv_model::operations::EndConfig;
 
 /// How many messages may be in flight. The room for them is taken when the tables are built.
 pub const MOST_MESSAGES: usize = 4096;
@@ -48,6 +49,15 @@ impl Model for Tables {
         × All (IsAssignment t.board) t.assignments.items × All (IsEnd t.board) t.ends.items × All (HasWrittenAtMost t.routed) t.ends.items
         × (vec_len t.messages ≤ 4096) × (4096 ≤ vec_capacity t.messages) };
 }
+
+/// How an END starts.
+const FIRST_END: EndRecord = EndRecord {
+    config: EndConfig::OFF,
+    written: 0,
+    taken: 0,
+    esn: 1,
+    ese: 1,
+};
 
 /// The assignment that a source starts with: one that is claimed is valid and masked.
 fn first_assignment(board: &Board, s: u32) -> Assignment
@@ -87,7 +97,7 @@ impl Tables {
         let sources = board.limits.sources as usize;
         let assignments = first_assignments(alloc, board)?;
         let routes = vec![in alloc; 0; sources]?;
-        let ends = vec![in alloc; EndRecord::FIRST; 8 * board.limits.processors as usize]?;
+        let ends = vec![in alloc; FIRST_END; 8 * board.limits.processors as usize]?;
         let messages = Vec::with_capacity(alloc, MOST_MESSAGES)?;
         Ok(Tables {
             board: *board,

@@ -1,6 +1,6 @@
 //! Routes, configurations and messages.
 
-ghost use Rattle.std.specs.Prelude.{◌≡◌, ◌<◌, ◌+◌, ◌≤◌};
+ghost use Rattle.std.specs.Prelude.{◌+◌};
 ghost use Rattle.xv_model.specs.Boards.{IsBoard, AreBelow};
 
 use crate::ends::EndRecord;
@@ -250,8 +250,13 @@ fn ways_to_go_on(rt: HostRuntime) {
         (81, 0, false, true, 0),
     ];
     for (flags, esn, presents, escalates, after) in cases {
-        let mut end = EndRecord::configured(&config(flags));
-        end.esn = esn;
+        let mut end = EndRecord {
+            config: config(flags),
+            written: 0,
+            taken: 0,
+            esn,
+            ese: 0,
+        };
         let then = notify(&mut end);
         assert_eq!(rt; matches!(then, Then::Present), presents, "at {flags}");
         assert_eq!(rt; matches!(then, Then::Escalate), escalates, "at {flags}");
