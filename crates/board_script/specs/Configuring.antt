@@ -54,24 +54,24 @@ endset_of b rest =
     end_by b e (config_of b flags (rest_of (rest_of rest)))))
 
 -- the arguments of a call, of which the last one stands alone in what is left of a line
-abbrev pub last_of : ℕ → ℕ → ℕ → ℕ → List ℕ → Option (List ℕ)
-last_of a b c d rest =
+abbrev pub last_arg_of : ℕ → ℕ → ℕ → ℕ → List ℕ → Option (List ℕ)
+last_arg_of a b c d rest =
     with_number (number_of (word_of rest)) (λ e.
     if is_blank (rest_of rest) then Some (a ∷ b ∷ c ∷ d ∷ e ∷ []) else None)
 
 -- the arguments of a call, by the first two and what stands after them
-abbrev pub more_of : ℕ → ℕ → List ℕ → Option (List ℕ)
-more_of a b rest =
+abbrev pub more_args_of : ℕ → ℕ → List ℕ → Option (List ℕ)
+more_args_of a b rest =
     with_number (number_of (word_of rest)) (λ c.
     with_number (number_of (word_of (rest_of rest))) (λ d.
-    last_of a b c d (rest_of (rest_of rest))))
+    last_arg_of a b c d (rest_of (rest_of rest))))
 
 -- the arguments of a call, by what stands after its number
 abbrev pub args_of : List ℕ → Option (List ℕ)
 args_of rest =
     with_number (number_of (word_of rest)) (λ a.
     with_number (number_of (word_of (rest_of rest))) (λ b.
-    more_of a b (rest_of (rest_of rest))))
+    more_args_of a b (rest_of (rest_of rest))))
 
 -- a call with its arguments, where there are five
 abbrev pub call_by : ℕ → Option (List ℕ) → Option Work

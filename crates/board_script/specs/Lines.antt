@@ -43,8 +43,8 @@ unclaimed_of b rest =
     if is_blank (rest_of (rest_of rest)) && nat_lt b.unclaimed.count 16 then Some (said.Unclaimed (record { first = first; last = last })) else None))
 
 -- a line at the end of the header: a range, or the end
-abbrev pub last_of : Board → List ℕ → List ℕ → Reading
-last_of b word rest =
+abbrev pub last_line_of : Board → List ℕ → List ℕ → Reading
+last_line_of b word rest =
     if is_word (codes "unclaimed") word then unclaimed_of b rest
     else (if is_word (codes "go") word && is_blank rest then Some said.Go else None)
 
@@ -57,7 +57,7 @@ header_of turns.Threads b word rest = number_line_of (codes "threads") 1 33 word
 header_of turns.Ram b word rest = number_line_of (codes "ram") 0 65 word rest
 header_of turns.Actors b word rest = number_line_of (codes "actors") 1 17 word rest
 header_of turns.Esb b word rest = pages_line_of word rest
-header_of turns.Go b word rest = last_of b word rest
+header_of turns.Go b word rest = last_line_of b word rest
 
 -- the work of a line, by the name of the operation and what stands after it
 abbrev pub steps_of : Board → List ℕ → List ℕ → Option AWork

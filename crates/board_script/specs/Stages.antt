@@ -100,16 +100,16 @@ line_by stage said.Go = line.Go (board_at stage)
 line_by stage said.End = line.End
 line_by stage (said.Work actor work) = line.Work actor work
 
--- before the last lines of the header there are no ranges
-abbrev pub HasRanges : Turn → Spans → Type 0
-HasRanges turns.Go spans = Unit {0}
-HasRanges _ spans = spans.count ≡ 0
+-- the ranges of sources that lines before this turn can give: none before the last lines
+abbrev pub HasRangesAt : Turn → Spans → Type 0
+HasRangesAt turns.Go spans = Unit {0}
+HasRangesAt _ spans = spans.count ≡ 0
 
 -- the board so far is one without level sources and unconnected processors
 pub record IsHeaderBoard (turn : Turn) (b : Board) : Type 0 where
   pub is_board : IsBoard b
   pub is_plain : IsPlain b
-  pub ranges : HasRanges turn b.unclaimed
+  pub ranges : HasRangesAt turn b.unclaimed
 
 -- in the header, the board so far is one that the lines before this turn can give
 abbrev pub IsStage : Stage → Type 0

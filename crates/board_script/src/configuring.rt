@@ -3,7 +3,7 @@
 ghost use Rattle.std.specs.Prelude.{◌≡◌, IfSome};
 ghost use Rattle.xv_model.specs.declared.board.Board.{Board};
 ghost use Rattle.board_script.specs.Working.{HasValidSteps, IsFresh};
-ghost use Rattle.board_script.specs.Configuring.{escalation_of, queue_of, config_of, endset_of, if_valid, last_of, more_of, args_of, hcall_of};
+ghost use Rattle.board_script.specs.Configuring.{escalation_of, queue_of, config_of, endset_of, if_valid, last_arg_of, more_args_of, args_of, hcall_of};
 
 use crate::flags::{flags, with_bits};
 use crate::numbers::{bounded, end_number, number, word32};
@@ -99,7 +99,7 @@ pub fn endset(board: &Board, rest: &[u8]) -> Option<Work>
 
 /// The arguments of a call, of which the last one stands alone in what is left of a line.
 fn last_arg(a: u64, b: u64, c: u64, d: u64, rest: &[u8]) -> Option<[u64; 5]>
-    ensures { result ≡ last_of a b c d rest.now }
+    ensures { result ≡ last_arg_of a b c d rest.now }
 {
     let (word, rest) = cut(rest);
     let e = number(word)?;
@@ -112,7 +112,7 @@ fn last_arg(a: u64, b: u64, c: u64, d: u64, rest: &[u8]) -> Option<[u64; 5]>
 
 /// The arguments of a call, by the first two and what stands after them.
 fn more_args(a: u64, b: u64, rest: &[u8]) -> Option<[u64; 5]>
-    ensures { result ≡ more_of a b rest.now }
+    ensures { result ≡ more_args_of a b rest.now }
 {
     let (first, rest) = cut(rest);
     let (second, rest) = cut(rest);

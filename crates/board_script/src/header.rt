@@ -1,7 +1,7 @@
 //! Lines of the header.
 
 ghost use Rattle.std.specs.Prelude.{◌≡◌, IfSome};
-ghost use Rattle.board_script.specs.Lines.{number_line_of, pages_line_of, unclaimed_of, last_of, header_of, IsNumber, IsPages, IsLastSaid, IsHeaderSaid};
+ghost use Rattle.board_script.specs.Lines.{number_line_of, pages_line_of, unclaimed_of, last_line_of, header_of, IsNumber, IsPages, IsLastSaid, IsHeaderSaid};
 
 use crate::lines::Said;
 use crate::numbers::bounded;
@@ -77,7 +77,7 @@ fn unclaimed_line(board: &Board, rest: &[u8]) -> Option<Said>
 
 /// A line at the end of the header: a range, or the end.
 fn last_line(board: &Board, word: &[u8], rest: &[u8]) -> Option<Said>
-    ensures reads { result ≡ last_of board.now word.now rest.now }
+    ensures reads { result ≡ last_line_of board.now word.now rest.now }
     ensures said { IfSome result (λ said. IsLastSaid board.now said) }
 {
     if same(word, b"unclaimed") {
