@@ -306,7 +306,7 @@ fn compare_events<F: Fn(u64) -> Result<String, Fail>>(
     alloc: Global,
     flags: &str,
     queue: &str,
-    events: u64,
+    events: u16,
     last: &[u8],
     run: F,
     end: &str,
@@ -322,6 +322,7 @@ fn compare_events<F: Fn(u64) -> Result<String, Fail>>(
         "0 0 endset 0 {flags} 0 0 {queue} 0 0x0 -> ok\n1 0 hcall 0x3ac 0x2 0x0 0x0 0x0 0x10 -> code 0\n2 0 set 0 00 -> 01 00\n"
     )?.as_bytes())?;
     for i in 0..events {
+        let i = i as u64;
         script.extend_from_slice(b"0 fire 0\n0 finish 0\n")?;
         let index = 3 + 3 * i;
         let text = run(i)?;
