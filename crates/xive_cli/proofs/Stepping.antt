@@ -15,13 +15,12 @@ use Rattle.xv_model.specs.declared.operations.PqOp.{PqOp}
 use Rattle.xv_model.specs.declared.operations.PqOp.TheVariants.{Trigger, Eoi, Get, Set, Raise, Lower, Init}
 use Rattle.xv_model.specs.declared.operations.Op.{Op}
 use Rattle.xv_model.specs.declared.operations.Op.TheVariants as op
-use Rattle.xv_model.specs.declared.outcomes.Routed.{Routed}
 use Rattle.xv_model.specs.declared.outcomes.HReply.{HReply}
 use Rattle.xv_model.specs.declared.outcomes.Outcome.{Outcome}
 use Rattle.xv_model.specs.declared.outcomes.Outcome.TheVariants as out
 use Rattle.xv_model.specs.declared.entries.Entry.{Entry}
 use Rattle.xv_model.specs.Start.{Start, start}
-use Rattle.xv_model.specs.Kinds.{WordAccess, access_of, is_at, is_word}
+use Rattle.xv_model.specs.Kinds.{access_of, is_at, is_word}
 use Rattle.xv_model.specs.PqTable.{Cell, pq_row, flag_after}
 use Rattle.xv_model.specs.Pairs.{Touch, Change, pq, asserted, touch_at, touch_by, change_in}
 use Rattle.xv_model.specs.Notices.{forwards, route_in, routes, outstanding, sum_below, all_outstanding}
@@ -32,7 +31,7 @@ use Rattle.xv_model.specs.Routing.{most_messages, routed_by, route_outcome}
 use Rattle.xv_model.specs.Validity.{valid, valid_pq}
 use Rattle.xv_model.specs.Legal.{answer_by, is_level, legal, most_forwards}
 use Rattle.xv_model.proofs.HalvesLemmas.{pq-skips, asserted-skips, forwards-skips}
-use Rattle.xv_model.proofs.Sums.{sum_below-same, sum_below-more_at, sum_below-zero}
+use Rattle.xv_model.proofs.Sums.{sum_below-same, sum_below-more_at}
 use Rattle.router.specs.Kept.{Kept}
 use Rattle.router.specs.Standing.{StandsFor as TablesStandFor}
 use Rattle.router.proofs.Keeping.{word_keeps}

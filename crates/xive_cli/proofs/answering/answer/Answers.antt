@@ -1,4 +1,4 @@
-use Rattle.std.proofs.Common.{ℕ, ◌≡◌, ◌∷◌, List, slice_set, subst, sym, refl}
+use Rattle.std.proofs.Common.{ℕ, List, slice_set, subst, sym, refl}
 use Rattle.xv_model.specs.declared.operations.Op.{Op}
 use Rattle.xv_model.specs.declared.operations.Op.TheVariants as op
 use Rattle.xv_model.specs.declared.outcomes.Outcome.TheVariants as out

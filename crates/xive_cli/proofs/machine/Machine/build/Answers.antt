@@ -1,4 +1,4 @@
-use Rattle.std.proofs.Common.{rules, ◌∙◌, ap, subst}
+use Rattle.std.proofs.Common.{rules}
 use Rattle.xive_cli.proofs.Stepping.{starts}
 use Rattle.xive_cli.proofs.machine.Machine.build.Goals as goal
 
