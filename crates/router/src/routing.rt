@@ -1,6 +1,6 @@
 //! Routes of notices.
 
-ghost use Rattle.std.specs.Prelude.{◌≡◌, ◌<◌, ◌≤◌, ◌+◌, ◌^◌, ◌∷◌, ℕ, List};
+ghost use Rattle.std.specs.Prelude.{◌≡◌, ◌<◌, ◌≤◌, ◌+◌, ◌^◌, ◌↔◌, ◌⊎◌, ◌∷◌, ℕ, List, length, slice_index_or};
 ghost use Rattle.xv_model.specs.declared.entries.Entry.{Entry};
 ghost use Rattle.xv_model.specs.declared.operations.Op.TheVariants.{Route};
 ghost use Rattle.xv_model.specs.declared.outcomes.Outcome.TheVariants.{NoNotice, BusFull};
@@ -22,8 +22,9 @@ impl Tables {
         requires room { self.old.routed < 2 ^ 62 }
         ensures outcome { (z : Start) (h : List Entry) → StandsFor self.old z h → forwards ≡ forwards_of z h s → result ≡ route_outcome z h s }
         ensures stands { (z : Start) (h : List Entry) (actor : ℕ) → StandsFor self.old z h → forwards ≡ forwards_of z h s → StandsFor self.new z (record { actor = actor; op = Route s; outcome = result } ∷ h) }
-        ensures no_notice { result ≡ NoNotice → self.new ≡ self.old }
-        ensures bus_full { result ≡ BusFull → self.new ≡ self.old }
+        ensures no_notice { (result ≡ NoNotice) ↔ (forwards ≤ slice_index_or self.old.routes s 0) }
+        ensures bus_full { (result ≡ BusFull) ↔ ((slice_index_or self.old.routes s 0 < forwards) × (length self.old.messages ≡ 4096)) }
+        ensures refused { (result ≡ NoNotice) ⊎ (result ≡ BusFull) → self.new ≡ self.old }
         ensures text { HasText result }
         ensures board { self.new.board ≡ self.old.board }
         ensures routed { self.new.routed ≤ self.old.routed + 1 }
