@@ -37,7 +37,7 @@ has_queue b c = if enqueues c then is_queue b c.qaddr c.qshift else (c.qaddr == 
 abbrev pub never_escalates : EndConfig → Bool
 never_escalates c = (c.esc == 0) && (c.esc_eisn == 0)
 
--- whether all fields but those of the queue are 0
+-- whether all fields but those of the queue and its start are 0
 abbrev pub has_nothing : EndConfig → Bool
 has_nothing c = (c.flags.0 == 0) && ((c.vp == 0) && ((c.priority == 0) && never_escalates c))
 

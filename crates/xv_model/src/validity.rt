@@ -60,7 +60,7 @@ fn escalates_nowhere(config: &EndConfig) -> bool
     config.esc == 0 && config.esc_eisn == 0
 }
 
-/// Whether all fields but those of the queue are 0.
+/// Whether all fields but those of the queue and its start are 0.
 fn is_empty(config: &EndConfig) -> bool
     ensures { result ≡ has_nothing config.now }
 {
