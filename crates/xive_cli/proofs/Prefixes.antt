@@ -1,16 +1,10 @@
 -- What a sink got of a text, where a put of a part of it failed.
-use Rattle.std.proofs.Common.{ℕ, zero, suc, ◌≡◌, ◌+◌, ◌-◌, ◌*◌, ◌<◌, List, [], ◌++◌, Option, arith, sym, ◌∙◌, ap, subst, refl, append_assoc, append-nil, length, OnErr, Result, Ok, Err}
+use Rattle.std.proofs.Common.{ℕ, zero, suc, ◌≡◌, ◌+◌, ◌-◌, ◌<◌, List, [], ◌∷◌, ◌++◌, Option, arith, sym, ◌∙◌, ap, subst, refl, append_assoc, append-nil, OnErr, Result, Ok, Err}
 use Rattle.xv_io.specs.Faults.{AppendsPrefix}
 use Rattle.xv_io.specs.Gathered.{Puts}
 use Rattle.xv_io.proofs.Appending.{prefix_more}
-use Rattle.xv_io.proofs.Puts.{puts_both, prefix_after_put}
-use Rattle.xv_model.specs.declared.entries.Entry.{Entry}
-use Rattle.xv_model.specs.Start.{start}
-use Rattle.xv_model.specs.Notices.{all_outstanding}
-use Rattle.xv_model.specs.Flight.{flight}
-use Rattle.xv_model.specs.Text.{source_line, queue_line, processor_line, ring_line, texts_below, end_line, last_lines, next_index, report_text}
-use Rattle.xive_cli.specs.declared.machine.Machine.{Machine}
-use Rattle.xive_cli.specs.Standing.{StandsFor}
+use Rattle.xv_io.proofs.Puts.{prefix_after_put}
+use Rattle.xv_model.specs.Text.{texts_below}
 
 -- what holds anyway holds after an error
 pub on_err_anyway : {T E P : Type 0} (r : Result T E) → P → OnErr r P
@@ -42,109 +36,16 @@ texts_prefix f n m w w' a b c low p h =
     subst (λ v. AppendsPrefix a c (w ++ v)) (sym more.1)
     (prefix_longer w a c (texts_below f n ++ f n) more.0 (prefix_after_put w w' a b c (texts_below f n) (f n) p h))
 
--- ---- the parts of a report, of which one failed
+-- a text, and then some more of them
+abbrev pub joined : List ℕ → List (List ℕ) → List ℕ
+joined x [] = x
+joined x (y ∷ ys) = joined (x ++ y) ys
 
--- its end
-pub report_at_end : (m : Machine) (h : List Entry) (w0 : List ℕ) (a0 c : Option (List ℕ)) → StandsFor m (start m.tables.board) h →
-    AppendsPrefix a0 c (w0 ++ end_line m.count) →
-    AppendsPrefix a0 c (w0 ++ report_text (start m.tables.board) h)
-report_at_end m h w0 a0 c st k =
-    let z = start m.tables.board in
-    let x = end_line (next_index z h) in
-    let y = texts_below (source_line z h) m.tables.board.limits.sources in
-    let f = texts_below (queue_line z h) (8 * m.tables.board.limits.processors) in
-    let u = texts_below (processor_line z) m.tables.board.limits.processors in
-    let v = texts_below ring_line m.tables.board.limits.threads in
-    let t = last_lines (length (flight z h)) (all_outstanding z h) in
-    prefix_longer w0 a0 c (x ++ y ++ f ++ u ++ v) t (prefix_longer w0 a0 c (x ++ y ++ f ++ u) v (prefix_longer w0 a0 c (x ++ y ++ f) u (prefix_longer w0 a0 c (x ++ y) f (prefix_longer w0 a0 c (x) y (subst (λ n. AppendsPrefix a0 c (w0 ++ end_line n)) st.index k)))))
+-- a prefix of a text is one of it with more texts
+pub prefix_joined : (w : List ℕ) (a c : Option (List ℕ)) (x : List ℕ) (ys : List (List ℕ)) → AppendsPrefix a c (w ++ x) → AppendsPrefix a c (w ++ joined x ys)
+prefix_joined w a c x [] p = p
+prefix_joined w a c x (y ∷ ys) p = prefix_joined w a c (x ++ y) ys (prefix_longer w a c x y p)
 
--- its sources
-pub report_at_sources : (m : Machine) (h : List Entry) (w0 w1 : List ℕ) (a0 a1 c : Option (List ℕ)) → StandsFor m (start m.tables.board) h →
-    Puts w0 a0 w1 a1 (end_line m.count) →
-    AppendsPrefix a1 c (w1 ++ texts_below (source_line (start m.tables.board) h) m.tables.board.limits.sources) →
-    AppendsPrefix a0 c (w0 ++ report_text (start m.tables.board) h)
-report_at_sources m h w0 w1 a0 a1 c st p k =
-    let z = start m.tables.board in
-    let x = end_line (next_index z h) in
-    let y = texts_below (source_line z h) m.tables.board.limits.sources in
-    let f = texts_below (queue_line z h) (8 * m.tables.board.limits.processors) in
-    let u = texts_below (processor_line z) m.tables.board.limits.processors in
-    let v = texts_below ring_line m.tables.board.limits.threads in
-    let t = last_lines (length (flight z h)) (all_outstanding z h) in
-    let p' = subst (λ n. Puts w0 a0 w1 a1 (end_line n)) st.index p in
-    prefix_longer w0 a0 c (x ++ y ++ f ++ u ++ v) t (prefix_longer w0 a0 c (x ++ y ++ f ++ u) v (prefix_longer w0 a0 c (x ++ y ++ f) u (prefix_longer w0 a0 c (x ++ y) f (prefix_after_put w0 w1 a0 a1 c (x) y p' k))))
-
--- its queues
-pub report_at_queues : (m : Machine) (h : List Entry) (w0 w1 w2 : List ℕ) (a0 a1 a2 c : Option (List ℕ)) → StandsFor m (start m.tables.board) h →
-    Puts w0 a0 w1 a1 (end_line m.count) →
-    Puts w1 a1 w2 a2 (texts_below (source_line (start m.tables.board) h) m.tables.board.limits.sources) →
-    AppendsPrefix a2 c (w2 ++ texts_below (queue_line (start m.tables.board) h) (8 * m.tables.board.limits.processors)) →
-    AppendsPrefix a0 c (w0 ++ report_text (start m.tables.board) h)
-report_at_queues m h w0 w1 w2 a0 a1 a2 c st p q k =
-    let z = start m.tables.board in
-    let x = end_line (next_index z h) in
-    let y = texts_below (source_line z h) m.tables.board.limits.sources in
-    let f = texts_below (queue_line z h) (8 * m.tables.board.limits.processors) in
-    let u = texts_below (processor_line z) m.tables.board.limits.processors in
-    let v = texts_below ring_line m.tables.board.limits.threads in
-    let t = last_lines (length (flight z h)) (all_outstanding z h) in
-    let p' = subst (λ n. Puts w0 a0 w1 a1 (end_line n)) st.index p in
-    prefix_longer w0 a0 c (x ++ y ++ f ++ u ++ v) t (prefix_longer w0 a0 c (x ++ y ++ f ++ u) v (prefix_longer w0 a0 c (x ++ y ++ f) u (prefix_after_put w0 w2 a0 a2 c (x ++ y) f (puts_both w0 w1 w2 a0 a1 a2 (x) y p' q) k)))
-
--- its processors
-pub report_at_processors : (m : Machine) (h : List Entry) (w0 w1 w2 w3 : List ℕ) (a0 a1 a2 a3 c : Option (List ℕ)) → StandsFor m (start m.tables.board) h →
-    Puts w0 a0 w1 a1 (end_line m.count) →
-    Puts w1 a1 w2 a2 (texts_below (source_line (start m.tables.board) h) m.tables.board.limits.sources) →
-    Puts w2 a2 w3 a3 (texts_below (queue_line (start m.tables.board) h) (8 * m.tables.board.limits.processors)) →
-    AppendsPrefix a3 c (w3 ++ texts_below (processor_line (start m.tables.board)) m.tables.board.limits.processors) →
-    AppendsPrefix a0 c (w0 ++ report_text (start m.tables.board) h)
-report_at_processors m h w0 w1 w2 w3 a0 a1 a2 a3 c st p q e k =
-    let z = start m.tables.board in
-    let x = end_line (next_index z h) in
-    let y = texts_below (source_line z h) m.tables.board.limits.sources in
-    let f = texts_below (queue_line z h) (8 * m.tables.board.limits.processors) in
-    let u = texts_below (processor_line z) m.tables.board.limits.processors in
-    let v = texts_below ring_line m.tables.board.limits.threads in
-    let t = last_lines (length (flight z h)) (all_outstanding z h) in
-    let p' = subst (λ n. Puts w0 a0 w1 a1 (end_line n)) st.index p in
-    prefix_longer w0 a0 c (x ++ y ++ f ++ u ++ v) t (prefix_longer w0 a0 c (x ++ y ++ f ++ u) v (prefix_after_put w0 w3 a0 a3 c (x ++ y ++ f) u (puts_both w0 w2 w3 a0 a2 a3 (x ++ y) f (puts_both w0 w1 w2 a0 a1 a2 (x) y p' q) e) k))
-
--- its rings
-pub report_at_rings : (m : Machine) (h : List Entry) (w0 w1 w2 w3 w4 : List ℕ) (a0 a1 a2 a3 a4 c : Option (List ℕ)) → StandsFor m (start m.tables.board) h →
-    Puts w0 a0 w1 a1 (end_line m.count) →
-    Puts w1 a1 w2 a2 (texts_below (source_line (start m.tables.board) h) m.tables.board.limits.sources) →
-    Puts w2 a2 w3 a3 (texts_below (queue_line (start m.tables.board) h) (8 * m.tables.board.limits.processors)) →
-    Puts w3 a3 w4 a4 (texts_below (processor_line (start m.tables.board)) m.tables.board.limits.processors) →
-    AppendsPrefix a4 c (w4 ++ texts_below ring_line m.tables.board.limits.threads) →
-    AppendsPrefix a0 c (w0 ++ report_text (start m.tables.board) h)
-report_at_rings m h w0 w1 w2 w3 w4 a0 a1 a2 a3 a4 c st p q e r k =
-    let z = start m.tables.board in
-    let x = end_line (next_index z h) in
-    let y = texts_below (source_line z h) m.tables.board.limits.sources in
-    let f = texts_below (queue_line z h) (8 * m.tables.board.limits.processors) in
-    let u = texts_below (processor_line z) m.tables.board.limits.processors in
-    let v = texts_below ring_line m.tables.board.limits.threads in
-    let t = last_lines (length (flight z h)) (all_outstanding z h) in
-    let p' = subst (λ n. Puts w0 a0 w1 a1 (end_line n)) st.index p in
-    prefix_longer w0 a0 c (x ++ y ++ f ++ u ++ v) t (prefix_after_put w0 w4 a0 a4 c (x ++ y ++ f ++ u) v (puts_both w0 w3 w4 a0 a3 a4 (x ++ y ++ f) u (puts_both w0 w2 w3 a0 a2 a3 (x ++ y) f (puts_both w0 w1 w2 a0 a1 a2 (x) y p' q) e) r) k)
-
--- its last lines
-pub report_at_last : (m : Machine) (h : List Entry) (messages : ℕ) (w0 w1 w2 w3 w4 w5 : List ℕ) (a0 a1 a2 a3 a4 a5 c : Option (List ℕ)) → StandsFor m (start m.tables.board) h → messages ≡ length (flight (start m.tables.board) h) →
-    Puts w0 a0 w1 a1 (end_line m.count) →
-    Puts w1 a1 w2 a2 (texts_below (source_line (start m.tables.board) h) m.tables.board.limits.sources) →
-    Puts w2 a2 w3 a3 (texts_below (queue_line (start m.tables.board) h) (8 * m.tables.board.limits.processors)) →
-    Puts w3 a3 w4 a4 (texts_below (processor_line (start m.tables.board)) m.tables.board.limits.processors) →
-    Puts w4 a4 w5 a5 (texts_below ring_line m.tables.board.limits.threads) →
-    AppendsPrefix a5 c (w5 ++ last_lines messages m.notices) →
-    AppendsPrefix a0 c (w0 ++ report_text (start m.tables.board) h)
-report_at_last m h messages w0 w1 w2 w3 w4 w5 a0 a1 a2 a3 a4 a5 c st flying p q e r s k =
-    let z = start m.tables.board in
-    let x = end_line (next_index z h) in
-    let y = texts_below (source_line z h) m.tables.board.limits.sources in
-    let f = texts_below (queue_line z h) (8 * m.tables.board.limits.processors) in
-    let u = texts_below (processor_line z) m.tables.board.limits.processors in
-    let v = texts_below ring_line m.tables.board.limits.threads in
-    let t = last_lines (length (flight z h)) (all_outstanding z h) in
-    let p' = subst (λ n. Puts w0 a0 w1 a1 (end_line n)) st.index p in
-    let k' = subst (λ n. AppendsPrefix a5 c (w5 ++ last_lines n (all_outstanding z h))) flying (subst (λ n. AppendsPrefix a5 c (w5 ++ last_lines messages n)) st.notices k) in
-    prefix_after_put w0 w5 a0 a5 c (x ++ y ++ f ++ u ++ v) t (puts_both w0 w4 w5 a0 a4 a5 (x ++ y ++ f ++ u) v (puts_both w0 w3 w4 a0 a3 a4 (x ++ y ++ f) u (puts_both w0 w2 w3 a0 a2 a3 (x ++ y) f (puts_both w0 w1 w2 a0 a1 a2 (x) y p' q) e) r) s) k'
+-- of some texts the first ones were put, and of the next one the first bytes were written
+pub part_failed : (w w' : List ℕ) (a b c : Option (List ℕ)) (done part : List ℕ) (rest : List (List ℕ)) → Puts w a w' b done → AppendsPrefix b c (w' ++ part) → AppendsPrefix a c (w ++ joined (done ++ part) rest)
+part_failed w w' a b c done part rest p f = prefix_joined w a c (done ++ part) rest (prefix_after_put w w' a b c done part p f)

@@ -10,8 +10,9 @@ use Rattle.xv_model.specs.Start.{Start, start}
 use Rattle.xv_model.specs.Pairs.{pq, asserted}
 use Rattle.xv_model.specs.Notices.{forwards, routes, all_outstanding}
 use Rattle.xv_model.specs.Flight.{flight}
-use Rattle.xv_model.specs.Text.{source_text, source_line, end_text, queue_line, saved_line, processor_line, ring_line, texts_below, end_line, last_lines, next_index, report_text}
+use Rattle.xv_model.specs.Text.{source_text, source_line, end_text, queue_line, saved_line, processor_line, ring_line, texts_below, end_line, last_lines, next_index}
 use Rattle.xive_cli.specs.declared.machine.Machine.{Machine}
+use Rattle.xive_cli.specs.Held.{Held}
 use Rattle.xive_cli.specs.declared.state.SourceState.{SourceState}
 use Rattle.xive_cli.specs.Standing.{StandsFor, state_of}
 use Rattle.xive_cli.proofs.Stepping.{in_none}
@@ -41,23 +42,36 @@ queue_is z h e end is = ap (λ (r : EndRecord). end_text e r.config r.written r.
 pub processor_is : (b : Board) (v : ℕ) → IsPlain b → saved_line v ≡ processor_line (start b) v
 processor_is b v plain = ap (λ unconnected. if not unconnected then saved_line v else []) (sym (in_none b.unconnected v plain.unconnected))
 
--- the whole report was put
-pub whole_report : (m : Machine) (h : List Entry) (messages : ℕ) (w0 w1 w2 w3 w4 w5 w6 : List ℕ) (a0 a1 a2 a3 a4 a5 a6 : Option (List ℕ)) → StandsFor m (start m.tables.board) h → messages ≡ length (flight (start m.tables.board) h) →
-    Puts w0 a0 w1 a1 (end_line m.count) →
-    Puts w1 a1 w2 a2 (texts_below (source_line (start m.tables.board) h) m.tables.board.limits.sources) →
-    Puts w2 a2 w3 a3 (texts_below (queue_line (start m.tables.board) h) (8 * m.tables.board.limits.processors)) →
-    Puts w3 a3 w4 a4 (texts_below (processor_line (start m.tables.board)) m.tables.board.limits.processors) →
-    Puts w4 a4 w5 a5 (texts_below ring_line m.tables.board.limits.threads) →
-    Puts w5 a5 w6 a6 (last_lines messages m.notices) →
-    Puts w0 a0 w6 a6 (report_text (start m.tables.board) h)
-whole_report m h messages w0 w1 w2 w3 w4 w5 w6 a0 a1 a2 a3 a4 a5 a6 st flying p q e r s t =
-    let z = start m.tables.board in
-    let p' = subst (λ n. Puts w0 a0 w1 a1 (end_line n)) st.index p in
-    let t' = subst (λ n. Puts w5 a5 w6 a6 (last_lines n (all_outstanding z h))) flying (subst (λ n. Puts w5 a5 w6 a6 (last_lines messages n)) st.notices t) in
-    let x = end_line (next_index z h) in
-    let y = texts_below (source_line z h) m.tables.board.limits.sources in
-    let f = texts_below (queue_line z h) (8 * m.tables.board.limits.processors) in
-    let u = texts_below (processor_line z) m.tables.board.limits.processors in
-    let v = texts_below ring_line m.tables.board.limits.threads in
-    puts_both w0 w5 w6 a0 a5 a6 (x ++ y ++ f ++ u ++ v) (last_lines (length (flight z h)) (all_outstanding z h))
-    (puts_both w0 w4 w5 a0 a4 a5 (x ++ y ++ f ++ u) v (puts_both w0 w3 w4 a0 a3 a4 (x ++ y ++ f) u (puts_both w0 w2 w3 a0 a2 a3 (x ++ y) f (puts_both w0 w1 w2 a0 a1 a2 x y p' q) e) r) s) t'
+-- The parts of a report, by what a machine that stands for the account counts.
+
+-- its sources
+abbrev pub sources_text : Start → List Entry → List ℕ
+sources_text z h = texts_below (source_line z h) z.board.limits.sources
+
+-- its queues
+abbrev pub queues_text : Start → List Entry → List ℕ
+queues_text z h = texts_below (queue_line z h) (8 * z.board.limits.processors)
+
+-- its processors
+abbrev pub processors_text : Start → List ℕ
+processors_text z = texts_below (processor_line z) z.board.limits.processors
+
+-- its rings
+abbrev pub rings_text : Start → List ℕ
+rings_text z = texts_below ring_line z.board.limits.threads
+
+-- its last lines
+abbrev pub last_text : Start → List Entry → List ℕ
+last_text z h = last_lines (length (flight z h)) (all_outstanding z h)
+
+-- the end that a machine counts is that of the account
+pub end_is : (m : Held) (z : Start) (h : List Entry) (n : ℕ) → StandsFor m z h → n ≡ m.count → end_line n ≡ end_line (next_index z h)
+end_is m z h n st e = ap end_line (e ∙ st.index)
+
+-- the rings are those of the board
+pub rings_are : {a b : Board} → a ≡ b → texts_below ring_line a.limits.threads ≡ texts_below ring_line b.limits.threads
+rings_are e = ap (λ (b : Board). texts_below ring_line b.limits.threads) e
+
+-- the last lines that it counts are those of the account
+pub last_is : (m : Held) (z : Start) (h : List Entry) (messages notices : ℕ) → StandsFor m z h → messages ≡ length (flight z h) → notices ≡ m.notices → last_lines messages notices ≡ last_text z h
+last_is m z h messages notices st flying e = ap (λ n. last_lines n notices) flying ∙ ap (last_lines (length (flight z h))) (e ∙ st.notices)
