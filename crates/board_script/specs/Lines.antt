@@ -48,16 +48,32 @@ last_line_of b word rest =
     if is_word (codes "unclaimed") word then unclaimed_of b rest
     else (if is_word (codes "go") word && is_blank rest then Some said.Go else None)
 
+-- a line of the header that has one number: its name, and the numbers from low on and below high
+pub record Count : Type 0 where
+  pub name : List ℕ
+  pub low : ℕ
+  pub high : ℕ
+
+-- what a turn of the header counts, where it does
+abbrev pub count_of : Turn → Option Count
+count_of turns.Board = Some (record { name = codes "board"; low = 1; high = 2 })
+count_of turns.Sources = Some (record { name = codes "sources"; low = 1; high = 8193 })
+count_of turns.Processors = Some (record { name = codes "processors"; low = 1; high = 65 })
+count_of turns.Threads = Some (record { name = codes "threads"; low = 1; high = 33 })
+count_of turns.Ram = Some (record { name = codes "ram"; low = 0; high = 65 })
+count_of turns.Actors = Some (record { name = codes "actors"; low = 1; high = 17 })
+count_of turns.Esb = None
+count_of turns.Go = None
+
+-- a line of the header at a turn, by what that counts
+abbrev pub header_by : Option Count → Turn → Board → List ℕ → List ℕ → Reading
+header_by (Some c) turn b word rest = number_line_of c.name c.low c.high word rest
+header_by None turns.Esb b word rest = pages_line_of word rest
+header_by None turn b word rest = last_line_of b word rest
+
 -- a line of the header, by its first word and what stands after it
 abbrev pub header_of : Turn → Board → List ℕ → List ℕ → Reading
-header_of turns.Board b word rest = number_line_of (codes "board") 1 2 word rest
-header_of turns.Sources b word rest = number_line_of (codes "sources") 1 8193 word rest
-header_of turns.Processors b word rest = number_line_of (codes "processors") 1 65 word rest
-header_of turns.Threads b word rest = number_line_of (codes "threads") 1 33 word rest
-header_of turns.Ram b word rest = number_line_of (codes "ram") 0 65 word rest
-header_of turns.Actors b word rest = number_line_of (codes "actors") 1 17 word rest
-header_of turns.Esb b word rest = pages_line_of word rest
-header_of turns.Go b word rest = last_line_of b word rest
+header_of turn b word rest = header_by (count_of turn) turn b word rest
 
 -- the work of a line, by the name of the operation and what stands after it
 abbrev pub steps_of : Board → List ℕ → List ℕ → Option AWork
@@ -123,16 +139,15 @@ IsLastSaid b (said.Unclaimed span) = IsRange b span
 IsLastSaid b said.Go = Unit {0}
 IsLastSaid b _ = ⊥
 
+-- what a line of the header says at a turn fits what that counts
+abbrev pub IsHeaderBy : Option Count → Turn → Board → Said → Type 0
+IsHeaderBy (Some c) turn b it = IsNumber c.low c.high it
+IsHeaderBy None turns.Esb b it = IsPages it
+IsHeaderBy None turn b it = IsLastSaid b it
+
 -- what a line of the header says has the form and the range of its turn
 abbrev pub IsHeaderSaid : Turn → Board → Said → Type 0
-IsHeaderSaid turns.Board b it = IsNumber 1 2 it
-IsHeaderSaid turns.Sources b it = IsNumber 1 8193 it
-IsHeaderSaid turns.Processors b it = IsNumber 1 65 it
-IsHeaderSaid turns.Threads b it = IsNumber 1 33 it
-IsHeaderSaid turns.Ram b it = IsNumber 0 65 it
-IsHeaderSaid turns.Actors b it = IsNumber 1 17 it
-IsHeaderSaid turns.Esb b it = IsPages it
-IsHeaderSaid turns.Go b it = IsLastSaid b it
+IsHeaderSaid turn b it = IsHeaderBy (count_of turn) turn b it
 
 -- a work line is by an actor of the board, its operations are valid there, and it has made nothing yet
 pub record IsWork (b : Board) (actor : ℕ) (work : AWork) : Type 0 where
