@@ -1,4 +1,4 @@
-//! What every crate stands on: numbers in range, how a run ends, and the words of a command line.
+//! What every crate stands on: limits, numbers in range, how a run ends, and the words of a command line.
 #![tactic(auto)]
 
 pub mod limits;

@@ -2,7 +2,7 @@
 
 ghost use Rattle.std.specs.Prelude.{◌≡◌, ◌*◌, ◌^◌, ◌<◌, ◌≤◌, ◌↔◌, IsSome, IfSome};
 
-use crate::Limits;
+use crate::limits::{ENDS_PER_PROCESSOR, Limits};
 use std::marker::Model;
 
 /// The number of a source. A contract sees it as that number.
@@ -22,7 +22,7 @@ impl Model for SourceNo {
 }
 
 impl SourceNo {
-    /// None where the number is too large for the board's sources.
+    /// None: the board has no source of that number.
     pub fn new(n: u64, limits: &Limits) -> Option<SourceNo>
         ensures in_range { IsSome result ↔ (n < limits.now.sources) }
         ensures value { IfSome result (λ it. it ≡ n) }
@@ -59,13 +59,14 @@ impl Model for EndNo {
 }
 
 impl EndNo {
-    /// None where the number is too large for the board's ENDs: each processor has eight.
+    /// None: the board has no END of that number. It has ENDS_PER_PROCESSOR for each processor.
     pub fn new(n: u64, limits: &Limits) -> Option<EndNo>
+        // So each number has 32 bits at most.
         requires { limits.now.processors ≤ 2 ^ 29 }
-        ensures in_range { IsSome result ↔ (n < 8 * limits.now.processors) }
+        ensures in_range { IsSome result ↔ (n < ENDS_PER_PROCESSOR * limits.now.processors) }
         ensures value { IfSome result (λ it. it ≡ n) }
     {
-        if n < 8 * (limits.processors as u64) {
+        if n < (ENDS_PER_PROCESSOR as u64) * (limits.processors as u64) {
             Some(EndNo { number: n as u32 })
         } else {
             None
@@ -97,7 +98,7 @@ impl Model for VpNo {
 }
 
 impl VpNo {
-    /// None where the number is too large for the board's processors.
+    /// None: the board has no processor of that number.
     pub fn new(n: u64, limits: &Limits) -> Option<VpNo>
         ensures in_range { IsSome result ↔ (n < limits.now.processors) }
         ensures value { IfSome result (λ it. it ≡ n) }
@@ -134,7 +135,7 @@ impl Model for ThreadNo {
 }
 
 impl ThreadNo {
-    /// None where the number is too large for the board's threads.
+    /// None: the board has no thread of that number.
     pub fn new(n: u64, limits: &Limits) -> Option<ThreadNo>
         ensures in_range { IsSome result ↔ (n < limits.now.threads) }
         ensures value { IfSome result (λ it. it ≡ n) }
@@ -171,7 +172,7 @@ impl Model for ActorNo {
 }
 
 impl ActorNo {
-    /// None where the number is too large for the board's actors.
+    /// None: the board has no actor of that number.
     pub fn new(n: u64, limits: &Limits) -> Option<ActorNo>
         ensures in_range { IsSome result ↔ (n < limits.now.actors) }
         ensures value { IfSome result (λ it. it ≡ n) }

@@ -1,7 +1,7 @@
 //! How a run ends.
 
 ghost use Rattle.std.specs.Prelude.{◌≡◌};
-ghost use Rattle.xv_base.specs.Statuses.{status_number};
+ghost use Rattle.xv_base.specs.Status.{status_number};
 
 /// How a run of a program ends.
 #[derive(Clone, Copy, Debug, PartialEq, Eq)]

@@ -1,15 +1,16 @@
 //! Each public function once, where it succeeds.
 
+use crate::limits::{MOST_ACTORS, MOST_PROCESSORS, MOST_SOURCES, MOST_THREADS};
 use crate::{ActorNo, EndNo, Limits, SourceNo, Status, ThreadNo, VpNo, Word};
 use std::test::Fail;
 
 #[test]
 fn numbers_in_range(rt: HostRuntime) {
     let limits = Limits {
-        sources: 8192,
-        processors: 64,
-        threads: 32,
-        actors: 16,
+        sources: MOST_SOURCES,
+        processors: MOST_PROCESSORS,
+        threads: MOST_THREADS,
+        actors: MOST_ACTORS,
     };
     assert_eq!(rt; SourceNo::new(8191, &limits).map(|s| s.get()), Some(8191));
     assert_eq!(rt; EndNo::new(511, &limits).map(|e| e.get()), Some(511));
