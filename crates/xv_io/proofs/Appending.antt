@@ -1,11 +1,11 @@
 -- Appends in turn.
-use Rattle.std.proofs.Common.{ℕ, ◌≡◌, ◌+◌, ◌-◌, ◌≤◌, List, [], ◌++◌, length, take, drop, min, Option, Some, None, arith, subst, sym, ◌∙◌}
+use Rattle.std.proofs.Common.{ℕ, ◌≡◌, ◌+◌, ◌-◌, ◌≤◌, List, [], ◌++◌, length, take, drop, min, Option, Some, None, arith, subst, sym, ◌∙◌, length-append}
 use Rattle.std.proofs.lemmas.Grind.{common_steps}
 use Rattle.std.proofs.Math.Seq.{take-add, take-append-add}
 use Rattle.std.specs.Io.KnownBytes.{Appends}
 use Rattle.std.proofs.KnownBytes.{Appends-nil}
 use Rattle.std.proofs.lemmas.List.{take_all, take_min, take-append-le}
-use Rattle.xv_io.specs.Faults.{AppendsPrefix}
+use Rattle.xv_io.specs.Faults.{AppendsPrefix, AppendsPart}
 
 pub appends_both : (a b c : Option (List ℕ)) (x y : List ℕ) → Appends a b x → Appends b c y → Appends a c (x ++ y)
 appends_both None b c x y h k = tt
@@ -44,3 +44,17 @@ prefix_more a c x y h =
     let low : k ≤ length x = omega arith in
     let same : take h.0 x ≡ take k (x ++ y) = sym (take_min h.0 x) ∙ sym (take-append-le k x y low) in
     (k, subst (Appends a c) same h.1)
+
+-- ---- writes of some of the first bytes, and not of all
+
+pub part_more : (a c : Option (List ℕ)) (x y : List ℕ) → AppendsPart a c x → AppendsPart a c (x ++ y)
+part_more a c x y h =
+    let low : h.0 ≤ length x = omega (arith, h.1) in
+    (h.0, omega (arith, h.1, length-append x y), subst (Appends a c) (sym (take-append-le h.0 x y low)) h.2)
+
+pub part_after : (a b c : Option (List ℕ)) (x y : List ℕ) → Appends a b x → AppendsPart b c y → AppendsPart a c (x ++ y)
+part_after a b c x y h k =
+    (length x + k.0, omega (arith, k.1, length-append x y), subst (Appends a c) (sym (take-append-add x y k.0)) (appends_both a b c x (take k.0 y) h k.2))
+
+pub prefix_part : (a c : Option (List ℕ)) (x : List ℕ) → AppendsPart a c x → AppendsPrefix a c x
+prefix_part a c x h = (h.0, h.2)

@@ -4,7 +4,8 @@ use Rattle.std.proofs.lemmas.Bool.{ne_eqb, le-leb, lt-leb}
 use Rattle.std.proofs.lemmas.List.{drop-take, take-take, length-take-le, take_all, drop_all}
 use Rattle.std.proofs.lemmas.Bool.Decides.{nat_tests}
 use Rattle.xv_base.specs.Lines.{lines_after, whole_lines_after, last_line, lines_within, are_too_many}
-use Rattle.xv_io.specs.Reading.{line_length}
+use Rattle.xv_base.specs.Limits.{longest_line}
+use Rattle.xv_io.specs.Reader.{line_length}
 
 -- ---- the length of the first line
 
@@ -68,8 +69,13 @@ whole_lines_after-skip (suc m) line (b ∷ bs) h = skip_by (b == 10) m (line_len
 lines_after-newline : (k : ℕ) (bytes more : List ℕ) → k ≤ line_length bytes → drop k bytes ≡ 10 ∷ more → lines_after [] bytes ≡ take k bytes ∷ lines_after [] more
 lines_after-newline k bytes more h e = lines_after-skip k [] bytes h ∙ ap (λ r. lines_after (take k bytes) r) e
 
-whole_lines_after-newline : (k : ℕ) (bytes more : List ℕ) → k ≤ line_length bytes → drop k bytes ≡ 10 ∷ more → whole_lines_after [] bytes ≡ take k bytes ∷ whole_lines_after [] more
+pub whole_lines_after-newline : (k : ℕ) (bytes more : List ℕ) → k ≤ line_length bytes → drop k bytes ≡ 10 ∷ more → whole_lines_after [] bytes ≡ take k bytes ∷ whole_lines_after [] more
 whole_lines_after-newline k bytes more h e = whole_lines_after-skip k [] bytes h ∙ ap (λ r. whole_lines_after (take k bytes) r) e
+
+-- bytes with no newline in them, and no more than a line may have, hold no whole line
+pub whole_lines-none : (a : List ℕ) → line_length a ≡ length a → length a ≤ longest_line → whole_lines_after [] a ≡ []
+whole_lines-none a e h =
+    whole_lines_after-skip (length a) [] a (omega (arith, e)) ∙ ap (λ r. whole_lines_after (take (length a) a) r) (drop_all (length a) a (omega arith)) ∙ ap (λ l. whole_lines_after l []) (take_all (length a) a (omega arith)) ∙ ap (λ t. cond t (a ∷ []) []) (lt-leb (suc longest_line) (length a) (omega arith))
 
 -- what is taken of bytes goes on with what is taken behind a newline
 taken_newline : (k m : ℕ) (bytes more : List ℕ) → drop k bytes ≡ 10 ∷ more → drop k (take (k + suc m) bytes) ≡ 10 ∷ take m more
@@ -114,18 +120,18 @@ gives_last n a h p w =
 -- ---- a long line
 
 abbrev pub BeginsLong : List (List ℕ) → Type 0
-BeginsLong lines = (line : List ℕ) × (more : List (List ℕ)) × (lines ≡ line ∷ more) × (256 < length line)
+BeginsLong lines = (line : List ℕ) × (more : List (List ℕ)) × (lines ≡ line ∷ more) × (longest_line < length line)
 
-long_by : (t : Bool) (line : List ℕ) (more rest : List (List ℕ)) → 256 < length line → BeginsLong rest → BeginsLong (cond t (line ∷ more) rest)
+long_by : (t : Bool) (line : List ℕ) (more rest : List (List ℕ)) → longest_line < length line → BeginsLong rest → BeginsLong (cond t (line ∷ more) rest)
 long_by true line more rest h r = (line, more, refl, h)
 long_by false line more rest h r = r
 
-lines_after-long : (line bytes : List ℕ) → 256 < length line → BeginsLong (lines_after line bytes)
+lines_after-long : (line bytes : List ℕ) → longest_line < length line → BeginsLong (lines_after line bytes)
 lines_after-long line [] h = (line, [], last_line-is line (omega arith), h)
 lines_after-long line (b ∷ bs) h = long_by (b == 10) line (lines_after [] bs) (lines_after (line ++ b ∷ []) bs) h (lines_after-long (line ++ b ∷ []) bs (omega (arith, length-append line (b ∷ []))))
 
-whole_lines_after-long : (line bytes : List ℕ) → 256 < length line → BeginsLong (whole_lines_after line bytes)
-whole_lines_after-long line [] h = (line, [], ap (λ t. cond t (line ∷ []) []) (le-leb 257 (length line) (omega arith)), h)
+whole_lines_after-long : (line bytes : List ℕ) → longest_line < length line → BeginsLong (whole_lines_after line bytes)
+whole_lines_after-long line [] h = (line, [], ap (λ t. cond t (line ∷ []) []) (le-leb (suc longest_line) (length line) (omega arith)), h)
 whole_lines_after-long line (b ∷ bs) h = long_by (b == 10) line (whole_lines_after [] bs) (whole_lines_after (line ++ b ∷ []) bs) h (whole_lines_after-long (line ++ b ∷ []) bs (omega (arith, length-append line (b ∷ []))))
 
 cond_long : (t : Bool) (w l : List (List ℕ)) → BeginsLong w → BeginsLong l → BeginsLong (cond t w l)
@@ -136,21 +142,21 @@ length-taken : (m : ℕ) (bytes : List ℕ) → m ≤ line_length bytes → leng
 length-taken m bytes h = length-take-le m bytes (omega (arith, line_length-le-length bytes))
 
 -- more bytes than a line may have, with no newline in them
-lines_after-longer : (m : ℕ) (bytes : List ℕ) → 256 < m → m ≤ line_length bytes → BeginsLong (lines_after [] bytes)
+lines_after-longer : (m : ℕ) (bytes : List ℕ) → longest_line < m → m ≤ line_length bytes → BeginsLong (lines_after [] bytes)
 lines_after-longer m bytes g h = subst BeginsLong (sym (lines_after-skip m [] bytes h)) (lines_after-long (take m bytes) (drop m bytes) (omega (arith, length-taken m bytes h)))
 
-whole_lines_after-longer : (m : ℕ) (bytes : List ℕ) → 256 < m → m ≤ line_length bytes → BeginsLong (whole_lines_after [] bytes)
+whole_lines_after-longer : (m : ℕ) (bytes : List ℕ) → longest_line < m → m ≤ line_length bytes → BeginsLong (whole_lines_after [] bytes)
 whole_lines_after-longer m bytes g h = subst BeginsLong (sym (whole_lines_after-skip m [] bytes h)) (whole_lines_after-long (take m bytes) (drop m bytes) (omega (arith, length-taken m bytes h)))
 
-pub begins_long : (n : ℕ) (a left : List ℕ) → 256 < line_length a → 256 < n → BeginsLong (lines_within n (a ++ left))
+pub begins_long : (n : ℕ) (a left : List ℕ) → longest_line < line_length a → longest_line < n → BeginsLong (lines_within n (a ++ left))
 begins_long n a left h w =
     let bytes = a ++ left in
-    let far : 257 ≤ line_length bytes = omega (arith, line_length-append a left) in
-    cond_long (nat_le n (length bytes)) _ _ (whole_lines_after-longer 257 (take n bytes) (omega arith) (line_length-take 257 n bytes (omega arith) far)) (lines_after-longer 257 bytes (omega arith) far)
+    let far : (suc longest_line) ≤ line_length bytes = omega (arith, line_length-append a left) in
+    cond_long (nat_le n (length bytes)) _ _ (whole_lines_after-longer (suc longest_line) (take n bytes) (omega arith) (line_length-take (suc longest_line) n bytes (omega arith) far)) (lines_after-longer (suc longest_line) bytes (omega arith) far)
 
 -- ---- the end of what may be given
 
-pub none_within : (n : ℕ) (a left : List ℕ) → n ≤ line_length a → n ≤ 256 → (lines_within n (a ++ left) ≡ []) × (are_too_many n (a ++ left) ≡ true)
+pub none_within : (n : ℕ) (a left : List ℕ) → n ≤ line_length a → n ≤ longest_line → (lines_within n (a ++ left) ≡ []) × (are_too_many n (a ++ left) ≡ true)
 none_within n a left h w =
     let bytes = a ++ left in
     let far : n ≤ line_length bytes = omega (arith, line_length-append a left) in
@@ -158,5 +164,5 @@ none_within n a left h w =
     let taken = take n bytes in
     let len : length taken ≡ n = length-taken n bytes far in
     let all : whole_lines_after [] taken ≡ [] =
-    whole_lines_after-skip n [] taken (line_length-take n n bytes (omega arith) far) ∙ ap (λ r. whole_lines_after (take n taken) r) (drop_all n taken (omega (arith, len))) ∙ ap (λ l. whole_lines_after l []) (take_all n taken (omega (arith, len))) ∙ ap (λ t. cond t (taken ∷ []) []) (lt-leb 257 (length taken) (omega (arith, len))) in
+    whole_lines_after-skip n [] taken (line_length-take n n bytes (omega arith) far) ∙ ap (λ r. whole_lines_after (take n taken) r) (drop_all n taken (omega (arith, len))) ∙ ap (λ l. whole_lines_after l []) (take_all n taken (omega (arith, len))) ∙ ap (λ t. cond t (taken ∷ []) []) (lt-leb (suc longest_line) (length taken) (omega (arith, len))) in
     (ap (λ t. cond t (whole_lines_after [] taken) (lines_after [] bytes)) many ∙ all, many)

@@ -1,13 +1,14 @@
 -- Parts of the piece that a reader of lines reads ahead into.
-use Rattle.std.proofs.Common.{ℕ, ◌≡◌, ◌+◌, ◌-◌, ◌≤◌, ◌<◌, ◌⊎◌, suc, List, [], ◌∷◌, ◌++◌, length, take, drop, arith, sym, ◌∙◌, ap, subst, append-nil, append_assoc, length-drop, Option, Some, None, Bool, true, slice_range}
+use Rattle.std.proofs.Common.{ℕ, ◌≡◌, ◌+◌, ◌-◌, ◌≤◌, ◌<◌, ◌⊎◌, suc, List, [], ◌∷◌, ◌++◌, length, take, drop, arith, sym, ◌∙◌, ap, subst, append-nil, append_assoc, length-drop, Option, Some, None, Bool, true, false, true≢false, slice_range}
 use Rattle.std.proofs.lemmas.List.{take-take, take-append-le, drop-append-le, drop-drop, take_all, drop_all, length-take-le}
 use Rattle.std.proofs.lemmas.Slice.{between_is, take-put_mid_below}
 use Rattle.std.proofs.Math.Seq.{take-append-add}
 use borrow.Rule.Slice.PartMut.{put_mid}
 use Rattle.std.specs.Io.KnownBytes.{Consumes, Keeps, prepend_known}
-use Rattle.xv_base.specs.Lines.{lines_within, are_too_many}
-use Rattle.xv_io.specs.Reading.{Reading, GivesLine, HasLongLine, HasNoLine, IsMoved, line_length}
-use Rattle.xv_io.proofs.Cutting.{gives_newline, gives_last, begins_long, none_within, line_length-append, line_length-le-length, newline_at}
+use Rattle.xv_base.specs.Lines.{lines_within, are_too_many, whole_lines, whole_lines_after}
+use Rattle.xv_io.specs.Reader.{Reading, Reads, rest, whole_left, GivesLine, GivesWholeLine, HasLongLine, HasNoLine, IsMoved, line_length}
+use Rattle.xv_base.specs.Limits.{byte_limit, longest_line}
+use Rattle.xv_io.proofs.Cutting.{gives_newline, whole_lines_after-newline, whole_lines-none, gives_last, begins_long, none_within, line_length-append, line_length-le-length, newline_at}
 
 abbrev pub reading : List ℕ → List ℕ → ℕ → Bool → Reading
 reading l a g e = record { line = l; ahead = a; given = g; ended = e }
@@ -66,40 +67,70 @@ rest_kept ahead bs None new h = tt
 rest_kept ahead bs (Some xs) None h = absurd h
 rest_kept ahead bs (Some xs) (Some ys) h = append_assoc ahead bs ys ∙ ap (λ x. ahead ++ x) (sym h)
 
+-- what was read was ahead or left before
+pub reads_keep : (old new : Reading) (left left' : Option (List ℕ)) → Reads old left new left' → Keeps (rest old left) (rest new left')
+reads_keep old new left left' r = subst (λ bs. Keeps (prepend_known old.ahead left) (prepend_known bs left')) (sym r.ahead) (rest_kept old.ahead r.read left left' r.consumed)
+
 -- ---- what is given out of a piece
 
+pub not_both : {X : Type 0} (b : Bool) → b ≡ true → b ≡ false → X
+not_both b t f = absurd (true≢false (sym t ∙ f))
+
+-- the bytes that are given are no more ahead
+pub counted : (piece : List ℕ) (at next len given : ℕ) → at ≤ next → next ≤ len → len ≤ length piece → (given + (next - at)) + length (slice_range piece next len) ≡ given + length (slice_range piece at len)
+counted piece at next len given h w fits = omega (arith, length-ahead piece next len w fits, length-ahead piece at len (omega arith) fits)
+
+-- where no newline is ahead and no more bytes than a line has, no whole line is ahead
+pub none_whole : (r : Reading) → line_length r.ahead ≡ length r.ahead → length r.ahead ≤ longest_line → whole_left r [] ≡ []
+none_whole r e h = ap whole_lines (append-nil r.ahead) ∙ whole_lines-none r.ahead e h
+
 module _ (piece line : List ℕ) (at len given k next : ℕ) (ended : Bool) (is : k ≡ line_length (slice_range piece at len)) (within : at ≤ len) (fits : len ≤ length piece) where
-  pub newline_given : at + k < len → k < 16777216 - given → next ≡ at + k + 1 → GivesLine (reading line (slice_range piece at len) given ended) (reading (slice_range piece at (at + k)) (slice_range piece next len) (given + (next - at)) ended)
+  pub newline_given : at + k < len → k < byte_limit - given → next ≡ at + k + 1 → GivesLine (reading line (slice_range piece at len) given ended) (reading (slice_range piece at (at + k)) (slice_range piece next len) (given + (next - at)) ended)
   newline_given here w e = λ left _.
       let a = slice_range piece at len in
       let size : length a ≡ len - at = length-ahead piece at len within fits in
       let short : k < length a = omega (arith, size) in
       let found : drop k a ≡ 10 ∷ drop (suc k) a = subst (λ n. drop n a ≡ 10 ∷ drop (suc n) a) (sym is) (newline_at a (omega (arith, is))) in
       let far : k ≤ line_length (a ++ left) = omega (arith, is, line_length-append a left) in
-      let g = gives_newline (16777216 - given) k (a ++ left) (drop (suc k) a ++ left) far (drop-append-le k a left (omega arith) ∙ ap (λ x. x ++ left) found) w in
+      let g = gives_newline (byte_limit - given) k (a ++ left) (drop (suc k) a ++ left) far (drop-append-le k a left (omega arith) ∙ ap (λ x. x ++ left) found) w in
       let took : take k (a ++ left) ≡ slice_range piece at (at + k) = take-append-le k a left (omega arith) ∙ sym (line_from piece at k len (omega arith)) in
-      let room : (16777216 - given) - suc k ≡ 16777216 - (given + (next - at)) = omega (arith, e) in
+      let room : (byte_limit - given) - suc k ≡ byte_limit - (given + (next - at)) = omega (arith, e) in
       let place : at + suc k ≡ next = omega (arith, e) in
       let behind : drop (suc k) a ≡ slice_range piece next len = sym (ahead_from piece at (suc k) len) ∙ ap (λ n. slice_range piece n len) place in
       (g.0 ∙ (λ i. took i ∷ lines_within (room i) (behind i ++ left)), g.1 ∙ (λ i. are_too_many (room i) (behind i ++ left)))
 
-  pub last_given : len ≤ at + k → k ≤ len - at → 0 < k → k < 16777216 - given → ended ≡ true → next ≡ at + k → GivesLine (reading line (slice_range piece at len) given ended) (reading (slice_range piece at (at + k)) (slice_range piece next len) (given + (next - at)) ended)
+  pub whole_given : at + k < len → next ≡ at + k + 1 → GivesWholeLine (reading line (slice_range piece at len) given ended) (reading (slice_range piece at (at + k)) (slice_range piece next len) (given + (next - at)) ended)
+  whole_given here e = λ more.
+      let a = slice_range piece at len in
+      let size : length a ≡ len - at = length-ahead piece at len within fits in
+      let found : drop k a ≡ 10 ∷ drop (suc k) a = subst (λ n. drop n a ≡ 10 ∷ drop (suc n) a) (sym is) (newline_at a (omega (arith, is, size))) in
+      let far : k ≤ line_length (a ++ more) = omega (arith, is, line_length-append a more) in
+      let split = whole_lines_after-newline k (a ++ more) (drop (suc k) a ++ more) far (drop-append-le k a more (omega (arith, size)) ∙ ap (λ x. x ++ more) found) in
+      let took : take k (a ++ more) ≡ slice_range piece at (at + k) = take-append-le k a more (omega (arith, size)) ∙ sym (line_from piece at k len (omega arith)) in
+      let place : at + suc k ≡ next = omega (arith, e) in
+      let behind : drop (suc k) a ≡ slice_range piece next len = sym (ahead_from piece at (suc k) len) ∙ ap (λ n. slice_range piece n len) place in
+      split ∙ (λ i. took i ∷ whole_lines_after [] (behind i ++ more))
+
+  pub no_newline : len ≤ at + k → line_length (slice_range piece at len) ≡ length (slice_range piece at len)
+  no_newline h = omega (arith, is, line_length-le-length (slice_range piece at len), length-ahead piece at len within fits)
+
+  pub last_given : len ≤ at + k → k ≤ len - at → 0 < k → k < byte_limit - given → ended ≡ true → next ≡ at + k → GivesLine (reading line (slice_range piece at len) given ended) (reading (slice_range piece at (at + k)) (slice_range piece next len) (given + (next - at)) ended)
   last_given here inside some w over e = λ left meets.
       let a = slice_range piece at len in
       let size : length a ≡ len - at = length-ahead piece at len within fits in
       let whole : k ≡ length a = omega (arith, size) in
-      let g = gives_last (16777216 - given) a (omega (arith, is, size)) (omega (arith, size)) (omega (arith, size)) in
+      let g = gives_last (byte_limit - given) a (omega (arith, is, size)) (omega (arith, size)) (omega (arith, size)) in
       let before : a ++ left ≡ a = ap (λ x. a ++ x) (meets over) ∙ append-nil a in
       let took : a ≡ slice_range piece at (at + k) = sym (line_from piece at k len inside ∙ take_all k a (omega (arith, size))) in
-      let room : (16777216 - given) - length a ≡ 16777216 - (given + (next - at)) = omega (arith, e, size) in
+      let room : (byte_limit - given) - length a ≡ byte_limit - (given + (next - at)) = omega (arith, e, size) in
       let behind : [] ≡ slice_range piece next len ++ left = sym (ap (λ n. slice_range piece n len ++ left) e ∙ ap (λ x. x ++ left) (ahead_from piece at k len ∙ drop_all k a (omega (arith, size))) ∙ meets over) in
-      (ap (λ x. lines_within (16777216 - given) x) before ∙ g.0 ∙ (λ i. took i ∷ lines_within (room i) (behind i)), ap (λ x. are_too_many (16777216 - given) x) before ∙ g.1 ∙ (λ i. are_too_many (room i) (behind i)))
+      (ap (λ x. lines_within (byte_limit - given) x) before ∙ g.0 ∙ (λ i. took i ∷ lines_within (room i) (behind i)), ap (λ x. are_too_many (byte_limit - given) x) before ∙ g.1 ∙ (λ i. are_too_many (room i) (behind i)))
 
   pub found_inside : k ≤ len - at
   found_inside = omega (arith, is, line_length-le-length (slice_range piece at len), length-ahead piece at len within fits)
 
-  pub long_left : (256 < k) ⊎ ((k ≤ 256) × (16777216 - given ≤ k)) → 256 < 16777216 - given → HasLongLine (reading line (slice_range piece at len) given ended)
-  long_left h w = λ left _. begins_long (16777216 - given) (slice_range piece at len) left (omega (arith, is, h)) w
+  pub long_left : (longest_line < k) ⊎ ((k ≤ longest_line) × (byte_limit - given ≤ k)) → longest_line < byte_limit - given → HasLongLine (reading line (slice_range piece at len) given ended)
+  long_left h w = λ left _. begins_long (byte_limit - given) (slice_range piece at len) left (omega (arith, is, h)) w
 
-  pub none_left : (256 < k) ⊎ ((k ≤ 256) × (16777216 - given ≤ k)) → 16777216 - given ≤ 256 → HasNoLine (reading line (slice_range piece at len) given ended) true
-  none_left h w = λ left _. none_within (16777216 - given) (slice_range piece at len) left (omega (arith, is, h)) w
+  pub none_left : (longest_line < k) ⊎ ((k ≤ longest_line) × (byte_limit - given ≤ k)) → byte_limit - given ≤ longest_line → HasNoLine (reading line (slice_range piece at len) given ended) true
+  none_left h w = λ left _. none_within (byte_limit - given) (slice_range piece at len) left (omega (arith, is, h)) w

@@ -1,9 +1,9 @@
 -- Texts that are put, one after another.
 use Rattle.std.proofs.Common.{ℕ, ◌≡◌, List, [], ◌++◌, Option, refl, sym, ◌∙◌, ap, subst, append_assoc, append-nil}
 use Rattle.std.specs.Io.KnownBytes.{Appends}
-use Rattle.xv_io.specs.Faults.{AppendsPrefix}
-use Rattle.xv_io.specs.Gathered.{Puts}
-use Rattle.xv_io.proofs.Appending.{appends_both, appends_none, prefix_after}
+use Rattle.xv_io.specs.Faults.{AppendsPrefix, AppendsPart}
+use Rattle.xv_io.specs.Writer.{Puts}
+use Rattle.xv_io.proofs.Appending.{appends_both, appends_none, prefix_after, part_after}
 
 -- nothing was put
 pub puts_none : (w : List ℕ) (a : Option (List ℕ)) → Puts w a w a []
@@ -30,3 +30,9 @@ pub prefix_after_put : (w w' : List ℕ) (a b c : Option (List ℕ)) (x y : List
 prefix_after_put w w' a b c x y p k =
     let same : p.sent ++ (w' ++ y) ≡ w ++ (x ++ y) = sym (append_assoc p.sent w' y) ∙ ap (λ v. v ++ y) p.kept ∙ append_assoc w x y in
     subst (AppendsPrefix a c) same (prefix_after a b c p.sent (w' ++ y) p.appended k)
+
+-- the same, where not all of them were written
+pub part_after_put : (w w' : List ℕ) (a b c : Option (List ℕ)) (x y : List ℕ) → Puts w a w' b x → AppendsPart b c (w' ++ y) → AppendsPart a c (w ++ (x ++ y))
+part_after_put w w' a b c x y p k =
+    let same : p.sent ++ (w' ++ y) ≡ w ++ (x ++ y) = sym (append_assoc p.sent w' y) ∙ ap (λ v. v ++ y) p.kept ∙ append_assoc w x y in
+    subst (AppendsPart a c) same (part_after a b c p.sent (w' ++ y) p.appended k)

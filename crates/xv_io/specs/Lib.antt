@@ -1,6 +1,5 @@
 pub mod Faults
-pub mod Gathered
-pub mod MemSink
-pub mod MemSource
-pub mod Reading
+pub mod Memory
+pub mod Reader
 pub mod Standard
+pub mod Writer

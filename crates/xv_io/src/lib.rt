@@ -11,11 +11,11 @@ mod writer;
 
 pub use failed::Failed;
 pub use memory::{MemSink, MemSource};
-pub use reader::{LIMIT, LONGEST, LineReader, Next};
+pub use reader::{LineReader, Next};
 pub use sink::{Sink, write_whole};
 pub use source::Source;
 pub use standard::{StdSink, StdSource};
-pub use writer::{LONGEST_PUT, Writer};
+pub use writer::{LONGEST_PUT, PIECE, ROOM, Writer};
 
 #[cfg(test)]
 mod tests;

@@ -1,24 +1,21 @@
 //! A reader of lines, which reads ahead in large pieces.
 
-ghost use Rattle.std.specs.Prelude.{◌≡◌, ◌≢◌, ◌<◌, ◌≤◌, ◌+◌, ◌⊎◌, [], true, false, OnOk, OnErr, length, slice_range};
+ghost use Rattle.std.specs.Prelude.{◌≡◌, ◌≢◌, ◌<◌, ◌≤◌, ◌+◌, ◌*◌, ◌⊎◌, [], true, false, IsTrue, IsFalse, OnOk, OnErr, length, slice_range};
 ghost use Rattle.std.specs.Io.KnownBytes.{IsAtEnd, Keeps};
 ghost use Rattle.xv_io.specs.Faults.{HasRisen};
-ghost use Rattle.xv_io.specs.Reading.{Reading, rest, GivesLine, HasLongLine, HasNoLine, IsInOrder, IsMoved, line_length};
+ghost use Rattle.xv_io.specs.Reader.{Reading, Reads, rest, GivesLine, GivesWholeLine, HasLongLine, HasNoLine, IsInOrder, IsMoved, line_length};
 
 use crate::{Failed, Source};
 use std::marker::Model;
+use xv_base::limits::{BYTE_LIMIT, LONGEST_LINE};
 
-/// The most bytes of lines that are given.
-pub const LIMIT: u64 = 16_777_216;
+/// The least room that a read is given, in bytes.
+const LEAST_READ: usize = 16384;
 
-/// The most bytes that a line may have.
-pub const LONGEST: usize = 256;
+/// How many bytes a reader holds.
+const ROOM: usize = 2 * LEAST_READ;
 
-const ROOM: usize = 32768;
-
-const PIECE: usize = 16384;
-
-/// Gives the lines of a source. It holds 32 KiB and takes no memory.
+/// Gives the lines of a source. It holds 32 KiB and allocates nothing.
 #[derive(Drop)]
 pub struct LineReader {
     piece: [u8; ROOM],
@@ -86,22 +83,30 @@ impl LineReader {
     /// Gives the next line out of what is read ahead, or says why there is none.
     pub fn next(&mut self) -> Next
         ensures line { result ≡ Next.Line → GivesLine self.old self.new }
+        ensures whole { result ≡ Next.Line → IsFalse self.old.ended →
+            GivesWholeLine self.old self.new }
         ensures long { result ≡ Next.Long → HasLongLine self.old }
         ensures too_many { result ≡ Next.TooMany → HasNoLine self.old true }
         ensures end { result ≡ Next.End → HasNoLine self.old false }
-        ensures more { result ≡ Next.More → (self.new ≡ self.old) × (self.old.ended ≡ false) × (length self.old.ahead ≤ 256) }
-        ensures short { result ≡ Next.Line → length self.new.line ≤ 256 }
+        ensures more { result ≡ Next.More →
+            (self.new ≡ self.old) × IsFalse self.old.ended
+            × (length self.old.ahead ≤ LONGEST_LINE) }
+        ensures waits { result ≡ Next.More → line_length self.old.ahead ≡ length self.old.ahead }
+        ensures below { result ≡ Next.More → self.old.given + length self.old.ahead < BYTE_LIMIT }
+        ensures short { result ≡ Next.Line → length self.new.line ≤ LONGEST_LINE }
         ensures stays { result ≢ Next.Line → self.new ≡ self.old }
         ensures ended { self.new.ended ≡ self.old.ended }
         ensures rises { result ≡ Next.Line → self.old.given < self.new.given }
         ensures given { self.old.given ≤ self.new.given }
-        ensures bounded { self.new.given ≤ 16777216 }
+        ensures bounded { self.new.given ≤ BYTE_LIMIT }
+        ensures counts { result ≡ Next.Line →
+            self.new.given + length self.new.ahead ≡ self.old.given + length self.old.ahead }
         ensures shrinks { length self.new.ahead ≤ length self.old.ahead }
     {
         let found = newline_or_len(&self.piece[self.at..self.len]);
-        let room = LIMIT - self.given;
-        if found > LONGEST || found as u64 >= room {
-            if room > LONGEST as u64 {
+        let room = BYTE_LIMIT - self.given;
+        if found > LONGEST_LINE || found as u64 >= room {
+            if room > LONGEST_LINE as u64 {
                 return Next::Long;
             }
             return Next::TooMany;
@@ -123,16 +128,23 @@ impl LineReader {
         Next::Line
     }
 
-    /// Reads once, with room for 16 KiB or more. What is ahead moves to the front first, where less room is behind it.
+    /// Reads once, with room for 16 KiB or more. What is ahead moves to the front first, where less room is
+    /// behind it. At `Err` it may be called again: nothing has changed.
     pub fn fill<S: Source>(&mut self, source: &mut S) -> Result<(), Failed>
-        requires { length self.old.ahead ≤ 256 }
-        ensures bytes { OnOk result (Keeps (rest self.old (S.left source.old)) (rest self.new (S.left source.new))) }
-        ensures end { OnOk result (self.new.ended ≡ true → IsAtEnd (S.left source.new)) }
-        ensures progress { OnOk result ((length self.old.ahead < length self.new.ahead) ⊎ (self.new.ended ≡ true)) }
+        requires short { length self.old.ahead ≤ LONGEST_LINE }
+        requires open_yet { IsFalse self.old.ended }
+        ensures reads { OnOk result
+            (Reads self.old (S.left source.old) self.new (S.left source.new)) }
+        ensures bytes { OnOk result
+            (Keeps (rest self.old (S.left source.old)) (rest self.new (S.left source.new))) }
+        ensures end { OnOk result (IsTrue self.new.ended → IsAtEnd (S.left source.new)) }
+        ensures progress { OnOk result
+            ((length self.old.ahead < length self.new.ahead) ⊎ IsTrue self.new.ended) }
         ensures line { self.new.line ≡ self.old.line }
         ensures given { self.new.given ≡ self.old.given }
         ensures err { OnErr result (HasRisen (S.faults source.old) (S.faults source.new)) }
         ensures unchanged { OnErr result (self.new ≡ self.old) }
+        ensures keeps { OnErr result (Keeps (S.left source.old) (S.left source.new)) }
         ensures count { S.faults source.old ≤ S.faults source.new }
     {
         let by = make_room(&mut self.piece, self.start, self.len);
@@ -147,16 +159,17 @@ impl LineReader {
     }
 }
 
-/// Moves the bytes from `start` to `len` to the front, where less than 16 KiB of room are behind them, and gives how far.
+/// Moves the bytes from `start` to `len` to the front, where less than 16 KiB of room are behind them, and
+/// gives how far.
 fn make_room(piece: &mut [u8; ROOM], start: usize, len: usize) -> usize
     requires ordered { start ≤ len }
-    requires short { len ≤ start + 513 }
-    requires fits { len ≤ 32768 }
+    requires short { len ≤ start + (2 * LONGEST_LINE + 1) }
+    requires fits { len ≤ ROOM }
     ensures moved { IsMoved result len piece.old piece.new }
     ensures within { result ≤ start }
-    ensures room { len ≤ result + 16384 }
+    ensures room { len ≤ result + LEAST_READ }
 {
-    if len <= ROOM - PIECE {
+    if len <= ROOM - LEAST_READ {
         return 0;
     }
     piece.copy_within(start..len, 0);

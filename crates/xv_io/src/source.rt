@@ -8,13 +8,14 @@ use crate::Failed;
 
 /// Where bytes come from.
 pub trait Source {
-    /// The bytes that are left, where they are told.
+    /// The bytes that are left, where they are known.
     ghost left: { Self → Option (List ℕ) };
 
     /// How often it failed.
     ghost faults: { Self → ℕ };
 
-    /// Moves the next bytes into the front of a piece, and gives how many. What is behind them in the piece may change too.
+    /// Moves the next bytes into the front of a piece, and gives how many: 0 at the end, or with no room.
+    /// What is behind them in the piece may change too.
     fn read(&mut self, into: &mut [u8]) -> Result<usize, Failed>
         ensures bound { IfOk result (λ n. n ≤ length into.new) }
         ensures bytes { ReadConsumes (left self.old) (left self.new) result into.new }

@@ -1,11 +1,12 @@
-//! What no clause says: that reads and writes succeed, and the order of faults and bytes at fakes.
+//! What no clause says: that reads and writes succeed, how often the source is read, and what a full sink keeps.
 
 ghost use Rattle.std.specs.Prelude.{◌≤◌};
 
-use crate::{LineReader, MemSink, MemSource, Next, Sink, Source, StdSink, StdSource, Writer};
+use crate::{LineReader, MemSink, MemSource, Next, PIECE, ROOM, Writer};
 use std::alloc::Global;
-use std::io::{self, Read, Write};
 use std::test::Fail;
+use xv_base::NoMemory;
+use xv_base::limits::LONGEST_LINE;
 
 /// The lines of bytes that come in pieces, each behind what `next` answered.
 fn lines_in_pieces(alloc: Global, bytes: &[u8], piece: u32) -> Result<Vec<u8>, Fail>
@@ -42,75 +43,67 @@ fn pieces_give_the_same_lines(rt: HostRuntime) -> Result<(), Fail> {
 
 #[test]
 fn a_line_has_256_bytes_at_most(rt: HostRuntime) -> Result<(), Fail> {
-    let longest = lines_in_pieces(rt.alloc(), &[b'a'; 256], 4096)?;
+    let longest = lines_in_pieces(rt.alloc(), &[b'a'; LONGEST_LINE], 4096)?;
     assert_eq!(rt; longest.len(), 257);
-    let longer = lines_in_pieces(rt.alloc(), &[b'a'; 257], 4096)?;
+    let longer = lines_in_pieces(rt.alloc(), &[b'a'; LONGEST_LINE + 1], 4096)?;
     assert_eq!(rt; longer.as_slice(), b"L".as_slice());
+    Ok(())
+}
+
+/// Whether the lines of bytes come to their end where the source fails at one read.
+fn comes_to_its_end(alloc: Global, bytes: &[u8], failing: u64) -> Result<bool, NoMemory> {
+    let copy = bytes.to_vec(alloc)?;
+    let mut source = MemSource::new(copy, 4096, vec![in alloc; failing]?);
+    let mut reader = LineReader::new();
+    for _ in 0..1000 {
+        match reader.next() {
+            Next::Line => {}
+            Next::More => {
+                if reader.fill(&mut source).is_err() {
+                    return Ok(false);
+                }
+            }
+            Next::Long | Next::TooMany => return Ok(false),
+            Next::End => return Ok(true),
+        }
+    }
+    Ok(false)
+}
+
+#[test]
+fn the_source_is_not_read_after_its_end(rt: HostRuntime) -> Result<(), Fail> {
+    for bytes in [b"one\nlast".as_slice(), b"one\n".as_slice()] {
+        for (failing, ends) in [(0, false), (1, false), (2, true)] {
+            assert_eq!(rt; comes_to_its_end(rt.alloc(), bytes, failing)?, ends);
+        }
+    }
     Ok(())
 }
 
 #[test]
 fn a_full_sink_keeps_what_it_has(rt: HostRuntime) -> Result<(), Fail> {
-    let mut sink = MemSink::new(rt.alloc(), 7, Vec::new(rt.alloc()))
-        .ok()
-        .ok_or("memory")?;
+    let mut sink = MemSink::new(rt.alloc(), 7, Vec::new(rt.alloc()))?;
     let mut writer = Writer::new();
-    writer.put(&mut sink, b"first")?;
+    writer.gathered.try_extend_from_slice(b"first")?;
+    writer.settle(&mut sink)?;
     assert!(rt; sink.held().is_empty());
     writer.flush(&mut sink)?;
     assert_eq!(rt; sink.held(), b"first".as_slice());
-    writer.put(&mut sink, b"second")?;
+    writer.gathered.try_extend_from_slice(b"second")?;
     assert!(rt; writer.flush(&mut sink).is_err());
     assert_eq!(rt; sink.held(), b"firstse".as_slice());
     Ok(())
 }
 
-/// A stream that fails at its second call.
-#[derive(Drop)]
-struct Failing {
-    calls: u32,
-}
-
-impl Failing {
-    fn call(&mut self) -> io::Result<()> {
-        let second = self.calls == 1;
-        self.calls = self.calls.saturating_add(1);
-        if second {
-            Err(io::ErrorKind::Other.into())
-        } else {
-            Ok(())
-        }
-    }
-}
-
-impl Read for Failing {
-    fn read(&mut self, buf: &mut [u8]) -> io::Result<usize> {
-        self.call()?;
-        Ok(buf.len().min(1))
-    }
-}
-
-impl Write for Failing {
-    fn write(&mut self, buf: &[u8]) -> io::Result<usize> {
-        self.call()?;
-        Ok(buf.len().min(1))
-    }
-
-    fn flush(&mut self) -> io::Result<()> {
-        Ok(())
-    }
-}
-
 #[test]
-fn streams_fail_once(rt: HostRuntime) -> Result<(), Fail> {
-    let mut source = StdSource::new(Failing { calls: 0 });
-    let mut sink = StdSink::new(Failing { calls: 0 });
-    let mut byte = [0];
-    assert_eq!(rt; source.read(&mut byte)?, 1);
-    assert!(rt; source.read(&mut byte).is_err());
-    assert_eq!(rt; source.read(&mut byte)?, 1);
-    assert_eq!(rt; sink.write(&byte)?, 1);
-    assert!(rt; sink.write(&byte).is_err());
-    assert_eq!(rt; sink.write(&byte)?, 1);
+fn a_piece_is_settled(rt: HostRuntime) -> Result<(), Fail> {
+    let mut sink = MemSink::new(rt.alloc(), ROOM as u32, Vec::new(rt.alloc()))?;
+    let mut writer = Writer::new();
+    writer.gathered.try_extend_from_slice(&[b'a'; PIECE - 1])?;
+    writer.settle(&mut sink)?;
+    assert_eq!(rt; sink.held().len(), 0);
+    writer.gathered.try_extend_from_slice(b"a")?;
+    writer.settle(&mut sink)?;
+    assert_eq!(rt; sink.held().len(), PIECE);
     Ok(())
 }

@@ -1,74 +1,71 @@
-//! A writer, which gathers what is put and writes it in large pieces.
+//! A writer, which gathers what is printed and writes it in large pieces.
 
-ghost use Rattle.std.specs.Prelude.{◌≡◌, ℕ, ◌<◌, ◌≤◌, List, [], ◌++◌, take, OnOk, OnErr, length};
+ghost use Rattle.std.specs.Prelude.{◌≡◌, ◌<◌, ◌≤◌, [], OnOk, OnErr};
 ghost use Rattle.std.specs.Io.KnownBytes.{Appends};
-ghost use Rattle.xv_io.specs.Faults.{HasRisen, AppendsPrefix};
-ghost use Rattle.xv_io.specs.Gathered.{Puts};
+ghost use Rattle.arrayvec.specs.ArrayVec.{array_vec_len};
+ghost use Rattle.xv_io.specs.Faults.{HasRisen, AppendsPart};
+ghost use Rattle.xv_io.specs.Writer.{Puts};
 
 use crate::{Failed, Sink, write_whole};
-use std::marker::Model;
+use arrayvec::ArrayVec;
 
-const PIECE: usize = 16384;
+/// How many gathered bytes are enough to be written.
+pub const PIECE: usize = 16384;
 
-/// The most bytes that may be put at once.
+/// The most bytes that may be printed between two calls of `settle`.
 pub const LONGEST_PUT: usize = 2048;
 
-const ROOM: usize = PIECE + LONGEST_PUT;
+/// How many bytes a writer holds.
+pub const ROOM: usize = PIECE + LONGEST_PUT;
 
-/// Gathers bytes for a sink, and writes them when 16 KiB are gathered. It takes no memory.
+/// Gathers bytes for a sink, and allocates nothing. Text is printed straight into `gathered`, and `settle`
+/// follows, behind which there is room for LONGEST_PUT bytes more.
 #[derive(Drop)]
 pub struct Writer {
-    bytes: [u8; ROOM],
-    len: usize,
-}
-
-impl Model for Writer {
-    ghost Value = { List ℕ };
-
-    ghost view = { λ w. take w.len w.bytes };
-
-    ghost invariant = { λ w. w.len < 16384 };
+    pub gathered: ArrayVec<u8, ROOM>,
 }
 
 impl Writer {
     pub fn new() -> Writer
-        ensures { result ≡ [] }
+        ensures { result.gathered.items ≡ [] }
     {
         Writer {
-            bytes: [0; ROOM],
-            len: 0,
+            gathered: ArrayVec::new(),
         }
     }
 
-    /// Appends a text, and writes all that is gathered where that is 16 KiB or more. What an `Err` finds unwritten is lost.
-    pub fn put<K: Sink>(&mut self, sink: &mut K, text: &[u8]) -> Result<(), Failed>
-        requires { length text.now ≤ 2048 }
-        ensures ok { OnOk result (Puts self.old (K.held sink.old) self.new (K.held sink.new) text.now) }
-        ensures err { OnErr result (AppendsPrefix (K.held sink.old) (K.held sink.new) (self.old ++ text.now)) }
-        ensures lost { OnErr result (self.new ≡ []) }
+    /// Writes all that is gathered where that is 16 KiB or more. What an `Err` leaves unwritten is lost.
+    #[inline]
+    pub fn settle<K: Sink>(&mut self, sink: &mut K) -> Result<(), Failed>
+        ensures ok { OnOk result (Puts self.old.gathered.items (K.held sink.old)
+            self.new.gathered.items (K.held sink.new) []) }
+        ensures room { OnOk result (array_vec_len self.new.gathered < PIECE) }
+        ensures few { array_vec_len self.old.gathered < PIECE →
+            (self.new ≡ self.old) × (sink.new ≡ sink.old) }
+        ensures err { OnErr result
+            (AppendsPart (K.held sink.old) (K.held sink.new) self.old.gathered.items) }
+        ensures lost { OnErr result (self.new.gathered.items ≡ []) }
         ensures failed { OnErr result (HasRisen (K.faults sink.old) (K.faults sink.new)) }
         ensures count { K.faults sink.old ≤ K.faults sink.new }
     {
-        let len = self.len + text.len();
-        self.bytes[self.len..len].copy_from_slice(text);
-        if len < PIECE {
-            self.len = len;
+        if self.gathered.len() < PIECE {
             return Ok(());
         }
-        self.len = 0;
-        write_whole(sink, &self.bytes[..len])
+        self.flush(sink)
     }
 
-    /// Writes all that is gathered. What an `Err` finds unwritten is lost.
+    /// Writes all that is gathered. What an `Err` leaves unwritten is lost.
     pub fn flush<K: Sink>(&mut self, sink: &mut K) -> Result<(), Failed>
-        ensures ok { OnOk result (Appends (K.held sink.old) (K.held sink.new) self.old) }
-        ensures empty { self.new ≡ [] }
-        ensures err { OnErr result (AppendsPrefix (K.held sink.old) (K.held sink.new) self.old) }
+        ensures ok { OnOk result
+            (Appends (K.held sink.old) (K.held sink.new) self.old.gathered.items) }
+        ensures empty { self.new.gathered.items ≡ [] }
+        ensures err { OnErr result
+            (AppendsPart (K.held sink.old) (K.held sink.new) self.old.gathered.items) }
         ensures failed { OnErr result (HasRisen (K.faults sink.old) (K.faults sink.new)) }
         ensures count { K.faults sink.old ≤ K.faults sink.new }
     {
-        let len = self.len;
-        self.len = 0;
-        write_whole(sink, &self.bytes[..len])
+        let written = write_whole(sink, self.gathered.as_slice());
+        self.gathered.clear();
+        written
     }
 }

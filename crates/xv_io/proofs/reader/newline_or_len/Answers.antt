@@ -1,7 +1,7 @@
 use Rattle.std.proofs.Common.{◌≡◌, ◌≢◌, ◌∙◌, sym, refl, rules}
 use Rattle.std.proofs.lemmas.Iterator.{YieldsList-from_slice, IsFirst-from_position, index_from_first}
 use borrow.Author.Tests.{tests}
-use Rattle.xv_io.specs.Reading.{line_length}
+use Rattle.xv_io.specs.Reader.{line_length}
 use Rattle.xv_io.proofs.Cutting.{line_length-hit, line_length-miss}
 use Rattle.xv_io.proofs.reader.newline_or_len.Goals as goal
 
