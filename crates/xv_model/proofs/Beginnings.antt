@@ -1,10 +1,9 @@
 -- Beginnings of accounts.
-use Rattle.std.proofs.Common.{ℕ, ◌≡◌, List, [], ◌∷◌, ◌++◌, refl, sym, ◌∙◌, ap, subst, append_assoc, append-nil}
+use Rattle.std.proofs.Common.{List, [], ◌∷◌, ◌++◌, refl, sym, ◌∙◌, ap, subst, append_assoc, append-nil}
 use Rattle.xv_model.specs.declared.entries.Entry.{Entry}
-use Rattle.xv_model.specs.Start.{Start}
-use Rattle.xv_model.specs.Scripts.{IsBeginning}
-use Rattle.xv_model.specs.Legal.{IsLegal}
-use Rattle.xv_model.specs.Text.{entries_text, entry_line, next_index}
+use Rattle.xv_model.specs.account.Start.{Start}
+use Rattle.xv_model.specs.account.Scripts.{IsBeginning}
+use Rattle.xv_model.specs.account.Legal.{IsLegal}
 use Rattle.xv_model.proofs.OneAccount.{legal_before}
 
 -- an account is a beginning of itself
@@ -26,18 +25,6 @@ after later g h b = record { later = later ++ b.later; whole = ap (λ v. later +
 -- a beginning of a beginning is a beginning
 pub trans : (f g h : List Entry) → IsBeginning f g → IsBeginning g h → IsBeginning f h
 trans f g h a b = subst (IsBeginning f) (sym b.whole) (after b.later f g a)
-
--- the texts of the entries after an account that are later than it
-later_text : (z : Start) (later g : List Entry) → (text : List ℕ) × (entries_text z (later ++ g) ≡ entries_text z g ++ text)
-later_text z [] g = ([], sym (append-nil (entries_text z g)))
-later_text z (x ∷ later) g =
-    let before = later_text z later g in
-    let line = entry_line (next_index z (later ++ g)) x in
-    (before.0 ++ line, ap (λ v. v ++ line) before.1 ∙ append_assoc (entries_text z g) before.0 line)
-
--- the text of a beginning's entries is a prefix of the text of the account's entries
-pub beginning_text : (z : Start) (g h : List Entry) → IsBeginning g h → (text : List ℕ) × (entries_text z h ≡ entries_text z g ++ text)
-beginning_text z g h b = let t = later_text z b.later g in (t.0, ap (entries_text z) b.whole ∙ t.1)
 
 -- of a legal account each beginning is legal
 pub legal_beginning : (z : Start) (g h : List Entry) → IsBeginning g h → IsLegal z h → IsLegal z g

@@ -1,7 +1,9 @@
 -- What the fabric's definitions say of an account they say of its fabric entries alone.
 use Rattle.std.proofs.Common.{ℕ, ◌≡◌, ◌==◌, ◌+◌, ◌-◌, ◌&&◌, ◌≢◌, nat_lt, Bool, true, false, not, cond, if◌then◌else◌, List, [], ◌∷◌, ◌++◌, length, filter, Option, Some, None, refl, sym, ◌∙◌, ap, append-nil}
 use Rattle.std.specs.Option.{option_map_or}
-use Rattle.xv_model.specs.declared.assignments.Assignment.{Assignment}
+use Rattle.xv_base.specs.Limits.{most_messages}
+use Rattle.xv_model.specs.declared.hypercalls.TheConstants.{H_SUCCESS, H_PARAMETER, H_P2, H_P3, H_P4, SRC_FLAGS, PRIORITY_MASKED, PRIORITY_RESERVED}
+use Rattle.xv_model.specs.declared.eas.Eas.{Eas}
 use Rattle.xv_model.specs.declared.operations.EndConfig.{EndConfig}
 use Rattle.xv_model.specs.declared.operations.Op.{Op}
 use Rattle.xv_model.specs.declared.operations.Op.TheVariants as op
@@ -12,21 +14,23 @@ use Rattle.xv_model.specs.declared.outcomes.Outcome.{Outcome}
 use Rattle.xv_model.specs.declared.outcomes.Outcome.TheVariants as out
 use Rattle.xv_model.specs.declared.entries.Entry.{Entry}
 use Rattle.xv_model.specs.declared.board.Board.{Board}
-use Rattle.xv_model.specs.Start.{Start}
-use Rattle.xv_model.specs.Kinds.{WordAccess, access_of, is_quiet, is_fabric, run_of}
-use Rattle.xv_model.specs.PqTable.{trigger_row}
-use Rattle.xv_model.specs.Notices.{forwards, routes, outstanding}
-use Rattle.xv_model.specs.Flags.{is_valid}
-use Rattle.xv_model.specs.Assignments.{source_config, source_config_in, assigned_by, assignment}
-use Rattle.xv_model.specs.Descriptors.{configuration_in, config_at, config_by, end_config, since_config, until_config}
-use Rattle.xv_model.specs.EventStates.{first_state, ran_at, asks_state, esn, ese}
-use Rattle.xv_model.specs.Written.{wrote_in, payload_of, written, written_count}
-use Rattle.xv_model.specs.Reading.{taken_count}
-use Rattle.xv_model.specs.Flight.{origin_of, made_by, messages_by, flight}
-use Rattle.xv_model.specs.Routing.{most_messages, write_by, next_by, end_pass, routed_by, route_outcome}
-use Rattle.xv_model.specs.Hypercalls.{bare_reply, h_parameter, h_p2, h_p3, h_p4, h_success, hcall_reply, is_target}
-use Rattle.xv_model.specs.Legal.{fabric_answer, legal}
-use Rattle.xv_model.specs.Halves.{words_of, fabric_of}
+use Rattle.xv_model.specs.account.Start.{Start}
+use Rattle.xv_model.specs.account.Kinds.{WordAccess, access_of, part_beside, is_quiet, is_fabric, run_of}
+use Rattle.xv_model.specs.source.PqTable.{trigger_row}
+use Rattle.xv_model.specs.source.Notices.{forwards, routes, outstanding}
+use Rattle.xv_model.specs.end.Flags.{is_valid}
+use Rattle.xv_model.specs.source.Eas.{source_config_in, eas_by, eas}
+use Rattle.xv_model.specs.end.Descriptors.{configuration_in, config_at, config_by, end_config, since_config, until_config}
+use Rattle.xv_model.specs.end.EventStates.{first_state, ran_at, asks_state, esn, ese}
+use Rattle.xv_model.specs.end.Written.{wrote_in, payload_of, written, written_count}
+use Rattle.xv_model.specs.end.Reading.{taken_count}
+use Rattle.xv_model.specs.route.Flight.{origin_of, made_by, messages_by, flight}
+use Rattle.xv_model.specs.route.Routing.{write_by, next_by, end_pass, routed_by, route_outcome}
+use Rattle.xv_model.specs.route.Quiet.{messages_of, quiet_by, quiet_answer}
+use Rattle.xv_model.specs.call.Arguments.{source_config}
+use Rattle.xv_model.specs.call.Hypercalls.{bare_reply, hcall_reply, is_target}
+use Rattle.xv_model.specs.account.Legal.{answer_on, legal}
+use Rattle.xv_model.specs.account.Halves.{words_of, fabric_of}
 use Rattle.xv_model.proofs.HalvesLemmas.{half, forwards-half, routes-half}
 
 -- an operation that isn't the fabric's configures no source
@@ -39,7 +43,7 @@ no_configuration : (b : Board) (o : Op) (u : Outcome) → is_fabric b o ≡ fals
 no_configuration b (op.EndSet e c) u other = cc
 no_configuration b _ u other = refl
 
--- an operation that isn't the fabric's runs no END
+-- an operation that isn't the fabric's is no pass of an END
 no_run : (b : Board) (o : Op) (u : Outcome) → is_fabric b o ≡ false → run_of o u ≡ None
 no_run b (op.Route s) u other = cc
 no_run b (op.Take i) u other = cc
@@ -54,9 +58,9 @@ no_origin b _ other = refl
 no_config_by : (b : Board) (e : ℕ) (x : Entry) → is_fabric b x.op ≡ false → config_by e x ≡ None
 no_config_by b e x other = ap (config_at e) (no_configuration b x.op x.outcome other)
 
--- an entry that isn't the fabric's leaves the assignment of s
-pub assignment-skips : (z : Start) (s : ℕ) (x : Entry) (h : List Entry) → is_fabric z.board x.op ≡ false → assignment z (x ∷ h) s ≡ assignment z h s
-assignment-skips z s x h other = rw (no_source_config z.board x.op x.outcome other) refl
+-- an entry that isn't the fabric's leaves the EAS of s
+pub eas-skips : (z : Start) (s : ℕ) (x : Entry) (h : List Entry) → is_fabric z.board x.op ≡ false → eas z (x ∷ h) s ≡ eas z h s
+eas-skips z s x h other = rw (no_source_config z.board x.op x.outcome other) refl
 
 -- an entry that isn't the fabric's leaves the configuration of e
 pub end_config-skips : (z : Start) (e : ℕ) (x : Entry) (h : List Entry) → is_fabric z.board x.op ≡ false → end_config z (x ∷ h) e ≡ end_config z h e
@@ -94,9 +98,9 @@ taken_count-skips z e x h other = until_config-skips z (z.taken_count e) e x h o
 pub flight-skips : (z : Start) (x : Entry) (h : List Entry) → is_fabric z.board x.op ≡ false → flight z (x ∷ h) ≡ flight z h
 flight-skips z x h other = rw (no_origin z.board x.op other) (append-nil (flight z h))
 
--- the assignment of s is that of the fabric's entries
-pub assignment-half : (z : Start) (s : ℕ) (h : List Entry) → assignment z (fabric_of z.board h) s ≡ assignment z h s
-assignment-half z s = half (λ x. is_fabric z.board x.op) (λ h. assignment z h s) (λ x h. ap (λ before. option_map_or (λ c. if c.source == s then assigned_by c before else before) (source_config_in x.op x.outcome) before)) (assignment-skips z s)
+-- the EAS of s is that of the fabric's entries
+pub eas-half : (z : Start) (s : ℕ) (h : List Entry) → eas z (fabric_of z.board h) s ≡ eas z h s
+eas-half z s = half (λ x. is_fabric z.board x.op) (λ h. eas z h s) (λ x h. ap (λ before. option_map_or (λ c. if c.lisn == s then eas_by c before else before) (source_config_in x.op x.outcome) before)) (eas-skips z s)
 
 -- the configuration of e is that of the fabric's entries
 pub end_config-half : (z : Start) (e : ℕ) (h : List Entry) → end_config z (fabric_of z.board h) e ≡ end_config z h e
@@ -135,7 +139,7 @@ ese-half z e = half (λ x. is_fabric z.board x.op) (λ h. ese z h e) (λ x h. ap
 
 -- what an operation routes after the fabric's entries is what it routes after the account
 payload_of-half : (z : Start) (h : List Entry) (o : Op) → payload_of z (fabric_of z.board h) o ≡ payload_of z h o
-payload_of-half z h (op.Route s) = ap (λ a. a.eisn ∷ []) (assignment-half z s h)
+payload_of-half z h (op.Route s) = ap (λ a. a.eisn ∷ []) (eas-half z s h)
 payload_of-half z h _ = refl
 
 -- what was written for e is what the fabric's entries wrote
@@ -150,7 +154,7 @@ written_count-half z e h = λ i. length (written-half z e h i) + until_config-ha
 pub taken_count-half : (z : Start) (e : ℕ) (h : List Entry) → taken_count z (fabric_of z.board h) e ≡ taken_count z h e
 taken_count-half z e h = until_config-half z (z.taken_count e) e h
 
--- the message that a run makes after the fabric's entries is the one that it makes after the account
+-- the message that a pass makes after the fabric's entries is the one that it makes after the account
 made_by-half : (z : Start) (h : List Entry) (m : Option ℕ) (r : Option EndRun) → made_by z (fabric_of z.board h) m r ≡ made_by z h m r
 made_by-half z h (Some s) (Some (run.Ran e wrote next)) = ap (λ c. messages_by next e c s) (end_config-half z e h)
 made_by-half z h (Some s) _ = refl
@@ -160,12 +164,12 @@ made_by-half z h None r = refl
 pub flight-half : (z : Start) (h : List Entry) → flight z (fabric_of z.board h) ≡ flight z h
 flight-half z = half (λ x. is_fabric z.board x.op) (flight z) (λ x h so_far. λ i. so_far i ++ made_by-half z h (origin_of x.op) (run_of x.op x.outcome) i) (flight-skips z)
 
--- a run of e after the fabric's entries is the one after the account
+-- a pass of e after the fabric's entries is the one after the account
 pub end_pass-half : (z : Start) (e payload : ℕ) (h : List Entry) → end_pass z (fabric_of z.board h) e payload ≡ end_pass z h e payload
 end_pass-half z e payload h = λ i. if is_valid (end_config-half z e h i) then run.Ran e (write_by (end_config-half z e h i) (written_count-half z e h i) payload) (next_by (end_config-half z e h i) (esn-half z e h i)) else run.NoEnd e
 
 -- what becomes of a notice after the fabric's entries is what becomes of it after the account
-pub routed_by-half : (z : Start) (a : Assignment) (h : List Entry) → routed_by z (fabric_of z.board h) a ≡ routed_by z h a
+pub routed_by-half : (z : Start) (a : Eas) (h : List Entry) → routed_by z (fabric_of z.board h) a ≡ routed_by z h a
 routed_by-half z a h = λ i. if not a.valid then NoSource else (if a.masked then Masked else Run (end_pass-half z a.end a.eisn h i))
 
 -- what a hypercall replies after the fabric's entries is what it replies after the account
@@ -173,44 +177,54 @@ pub hcall_reply-half : (z : Start) (args : List ℕ) (h : List Entry) → hcall_
 hcall_reply-half z args h =
     let c = source_config args in
     λ i. bare_reply (
-    if not (nat_lt c.flags 4) then h_parameter
-    else (if not (nat_lt c.source z.board.limits.sources && (assignment-half z c.source h i).valid) then h_p2
-    else (if c.priority == 255 then h_success
-    else (if not (nat_lt c.priority 7) then h_p4
-    else (if not (is_target z h c.target) then h_p3 else h_success)))))
+    if nat_lt SRC_FLAGS c.flags then H_PARAMETER
+    else (if not (nat_lt c.lisn z.board.limits.sources && (eas-half z c.lisn h i).valid) then H_P2
+    else (if c.priority == PRIORITY_MASKED then H_SUCCESS
+    else (if not (nat_lt c.priority PRIORITY_RESERVED) then H_P4
+    else (if not (is_target z h c.target) then H_P3 else H_SUCCESS)))))
 
 -- what says the same of an account as of its fabric entries says the same of accounts with the same ones
 pub same_fabric : {R : Type 0} (b : Board) (d : List Entry → R) (g h : List Entry) → ((f : List Entry) → d (fabric_of b f) ≡ d f) → fabric_of b g ≡ fabric_of b h → d g ≡ d h
 same_fabric b d g h says same = sym (says g) ∙ ap d same ∙ says h
 
--- the notices of s that are out are as many after accounts with the same entries on its word and the same fabric entries
+-- the outstanding notices of s are as many after accounts with the same entries on its word and the same fabric entries
 pub outstanding_halves : (z : Start) (g h : List Entry) (s : ℕ) → words_of z.board s g ≡ words_of z.board s h → fabric_of z.board g ≡ fabric_of z.board h → outstanding z g s ≡ outstanding z h s
 outstanding_halves z g h s words same =
     let forwarded : forwards z g s ≡ forwards z h s = sym (forwards-half z s g) ∙ ap (λ f. forwards z f s) words ∙ forwards-half z s h in
     λ i. forwarded i - same_fabric z.board (λ f. routes z f s) g h (routes-half z s) same i
 
--- a route of s answers the same after accounts with the same fabric entries and the same count of notices of s
-pub route_half : (z : Start) (g h : List Entry) (s : ℕ) → fabric_of z.board g ≡ fabric_of z.board h → outstanding z g s ≡ outstanding z h s → route_outcome z g s ≡ route_outcome z h s
-route_half z g h s same notices =
-    let full = same_fabric z.board (flight z) g h (flight-half z) same in
+-- the messages in flight are the same after accounts with the same fabric entries
+same_flight : (z : Start) (g h : List Entry) → fabric_of z.board g ≡ fabric_of z.board h → flight z g ≡ flight z h
+same_flight z g h same = same_fabric z.board (flight z) g h (flight-half z) same
+
+-- a route of s answers the same after accounts with the same fabric entries, where a notice of s is outstanding after both or after neither
+pub route_half : (z : Start) (g h : List Entry) (s : ℕ) → fabric_of z.board g ≡ fabric_of z.board h → (outstanding z g s == 0) ≡ (outstanding z h s == 0) → route_outcome z g s ≡ route_outcome z h s
+route_half z g h s same none =
+    let full = same_flight z g h same in
     let number = same_fabric z.board (λ f. routes z f s) g h (routes-half z s) same in
-    let routed = ap (routed_by z g) (same_fabric z.board (λ f. assignment z f s) g h (assignment-half z s) same) ∙ same_fabric z.board (λ f. routed_by z f (assignment z h s)) g h (routed_by-half z (assignment z h s)) same in
-    λ i. if notices i == 0 then out.NoNotice else (if length (full i) == most_messages then out.BusFull else out.Routed (number i + 1) (routed i))
+    let routed = ap (routed_by z g) (same_fabric z.board (λ f. eas z f s) g h (eas-half z s) same) ∙ same_fabric z.board (λ f. routed_by z f (eas z h s)) g h (routed_by-half z (eas z h s)) same in
+    λ i. if none i then out.NoNotice else (if length (full i) == most_messages then out.BusFull else out.Routed (number i + 1) (routed i))
 
--- an operation of the fabric answers the same after accounts with the same fabric entries, where a route's count of notices is the same
-fabric_answer_half : (z : Start) (g h : List Entry) (o : Op) → fabric_of z.board g ≡ fabric_of z.board h → ((s : ℕ) → o ≡ op.Route s → outstanding z g s ≡ outstanding z h s) → fabric_answer z g o ≡ fabric_answer z h o
-fabric_answer_half z g h (op.Route s) same notices = route_half z g h s same (notices s refl)
-fabric_answer_half z g h (op.Hcall number args) same notices = ap out.Reply (same_fabric z.board (λ f. hcall_reply z f args) g h (hcall_reply-half z args) same)
-fabric_answer_half z g h _ same notices = refl
+-- whether s is quiet is answered the same after accounts with the same fabric entries and as many outstanding notices of s
+pub quiet_half : (z : Start) (g h : List Entry) (s : ℕ) → fabric_of z.board g ≡ fabric_of z.board h → outstanding z g s ≡ outstanding z h s → quiet_answer z g s ≡ quiet_answer z h s
+quiet_half z g h s same notices = let messages = same_flight z g h same in λ i. quiet_by (notices i) (messages_of (messages i) s)
 
--- an operation of the fabric is on no word
-no_access : (m : Option WordAccess) (other : Bool) → option_map_or (λ a. false) m other ≡ true → m ≡ None
-no_access None other is = refl
+-- an operation of the fabric answers the same after accounts with the same fabric entries, where for a route a notice is outstanding after both or after neither
+fabric_answer_half : (z : Start) (g h : List Entry) (o : Op) → not (is_quiet o) ≡ true → fabric_of z.board g ≡ fabric_of z.board h → ((s : ℕ) → o ≡ op.Route s → (outstanding z g s == 0) ≡ (outstanding z h s == 0)) →
+    answer_on z g o (part_beside o) ≡ answer_on z h o (part_beside o)
+fabric_answer_half z g h (op.Quiet s) is same none = cc
+fabric_answer_half z g h (op.Route s) is same none = route_half z g h s same (none s refl)
+fabric_answer_half z g h (op.Hcall number args) is same none = ap out.Reply (same_fabric z.board (λ f. hcall_reply z f args) g h (hcall_reply-half z args) same)
+fabric_answer_half z g h _ is same none = refl
+
+-- an operation of the fabric is on no word, and not quiet
+no_access : (m : Option WordAccess) (other : Bool) → option_map_or (λ a. false) m other ≡ true → (m ≡ None) × (other ≡ true)
+no_access None other is = (refl, is)
 no_access (Some a) other is = cc
 
--- the legal outcome of an operation of the fabric is the same after accounts with the same fabric entries, where a route's count of notices is the same
-pub legal_fabric_half : (z : Start) (g h : List Entry) (o : Op) → is_fabric z.board o ≡ true → fabric_of z.board g ≡ fabric_of z.board h → ((s : ℕ) → o ≡ op.Route s → outstanding z g s ≡ outstanding z h s) → legal z g o ≡ legal z h o
-legal_fabric_half z g h o is same notices = rw (no_access (access_of z.board o) (not (is_quiet o)) is) (fabric_answer_half z g h o same notices)
+-- the legal outcome of an operation of the fabric is the same after accounts with the same fabric entries, where for a route a notice is outstanding after both or after neither
+pub legal_fabric_half : (z : Start) (g h : List Entry) (o : Op) → is_fabric z.board o ≡ true → fabric_of z.board g ≡ fabric_of z.board h → ((s : ℕ) → o ≡ op.Route s → (outstanding z g s == 0) ≡ (outstanding z h s == 0)) → legal z g o ≡ legal z h o
+legal_fabric_half z g h o is same none = let k = no_access (access_of z.board o) (not (is_quiet o)) is in rw k.0 (fabric_answer_half z g h o k.1 same none)
 
 -- the legal outcome of an operation of the fabric that isn't a route depends on the fabric's entries alone
 pub fabric_half : (z : Start) (g h : List Entry) (o : Op) → is_fabric z.board o ≡ true → ((s : ℕ) → o ≢ op.Route s) → fabric_of z.board g ≡ fabric_of z.board h → legal z g o ≡ legal z h o

@@ -1,4 +1,6 @@
+pub mod Accounts
 pub mod Beginnings
+pub mod Burdens
 pub mod FabricHalves
 pub mod HalvesLemmas
 pub mod MoreLines
@@ -9,3 +11,4 @@ pub mod Sums
 pub mod Touches
 pub mod TriggerLaws
 pub mod WrittenCounts
+pub mod WellFormed

@@ -2,6 +2,7 @@
 use Rattle.std.proofs.Common.{ℕ, ◌≡◌, ◌==◌, ◌+◌, ◌≤◌, Bool, true, false, not, if◌then◌else◌, ◌&&◌, List, [], ◌∷◌, ◌++◌, length, Some, None, refl, sym, ◌∙◌, ap, subst, arith, append_assoc, append-nil, length-append}
 use Rattle.std.proofs.lemmas.Bool.Decides.{nat_tests}
 use Rattle.std.specs.Option.{option_map_or}
+use Rattle.xv_base.specs.Limits.{most_messages}
 use Rattle.xv_model.specs.declared.operations.EndConfig.{EndConfig}
 use Rattle.xv_model.specs.declared.operations.Op.{Op}
 use Rattle.xv_model.specs.declared.operations.Op.TheVariants as op
@@ -15,20 +16,20 @@ use Rattle.xv_model.specs.declared.outcomes.Outcome.{Outcome}
 use Rattle.xv_model.specs.declared.outcomes.Outcome.TheVariants as out
 use Rattle.xv_model.specs.declared.entries.Entry.{Entry}
 use Rattle.xv_model.specs.declared.board.Board.{Board}
-use Rattle.xv_model.specs.Start.{Start, start}
-use Rattle.xv_model.specs.Kinds.{run_of}
-use Rattle.xv_model.specs.Notices.{forwards, route_in, routes, outstanding}
-use Rattle.xv_model.specs.Flags.{is_valid, enqueues}
-use Rattle.xv_model.specs.Assignments.{assignment}
-use Rattle.xv_model.specs.Descriptors.{end_config}
-use Rattle.xv_model.specs.EventStates.{esn}
-use Rattle.xv_model.specs.Written.{wrote_in, payload_of, entered, written, written_count}
-use Rattle.xv_model.specs.Memory.{wrote_at}
-use Rattle.xv_model.specs.Flight.{origin_of, messages_by, made_by, flight}
-use Rattle.xv_model.specs.Routing.{most_messages, next_by, routed_by, route_outcome}
-use Rattle.xv_model.specs.Triggers.{down_from}
-use Rattle.xv_model.specs.Legal.{IsLegal, IsNext, legal}
-use Rattle.xv_model.specs.Entering.{route_number, route_numbers, due_of, due_at, RoutedInOrder, RoutedOnceForwarded, EachEntersOnce}
+use Rattle.xv_model.specs.account.Start.{Start, start}
+use Rattle.xv_model.specs.account.Kinds.{run_of}
+use Rattle.xv_model.specs.source.Notices.{forwards, route_in, routes, outstanding}
+use Rattle.xv_model.specs.end.Flags.{is_valid, enqueues}
+use Rattle.xv_model.specs.source.Eas.{eas}
+use Rattle.xv_model.specs.end.Descriptors.{end_config}
+use Rattle.xv_model.specs.end.EventStates.{esn}
+use Rattle.xv_model.specs.end.Written.{wrote_in, payload_of, entered, written, written_count}
+use Rattle.xv_model.specs.end.Memory.{wrote_at}
+use Rattle.xv_model.specs.route.Flight.{origin_of, messages_by, made_by, flight}
+use Rattle.xv_model.specs.route.Routing.{next_by, routed_by, route_outcome}
+use Rattle.xv_model.specs.laws.Triggers.{down_from}
+use Rattle.xv_model.specs.account.Legal.{IsLegal, IsNext, legal}
+use Rattle.xv_model.specs.laws.Entering.{route_number, route_numbers, due_of, due_at, RoutedInOrder, RoutedOnceForwarded, EachEntersOnce}
 use Rattle.xv_model.proofs.OneAccount.{legal_before}
 use Rattle.xv_model.proofs.TriggerLaws.{down_from-one, down_from-zero}
 
@@ -42,7 +43,7 @@ routed_number_by true b n k d r e = cc
 routed_number_by false true n k d r e = cc
 routed_number_by false false n k d r e = (refl, refl, cc)
 
--- a route of s that routed a notice: one was out, and its number is one more than the routes before
+-- a route of s that routed a notice: one was outstanding, and its number is one more than the routes before
 pub routed_number : (z : Start) (h : List Entry) (s k : ℕ) (r : Routed) → route_outcome z h s ≡ out.Routed k r → (1 ≤ outstanding z h s) × (k ≡ routes z h s + 1)
 routed_number z h s k r e =
     let t = routed_number_by (outstanding z h s == 0) (length (flight z h) == most_messages) (routes z h s + 1) k _ r e in
@@ -99,11 +100,11 @@ routes_within_from z (x ∷ h) s l w =
 pub routes_within : (b : Board) (h : List Entry) → IsLegal (start b) h → (s : ℕ) → routes (start b) h s ≤ forwards (start b) h s
 routes_within b h l s = routes_within_from (start b) h s l (omega arith)
 
--- the notices of a source that are out and those that were routed are its forwards
+-- the outstanding notices of a source and those that were routed are its forwards
 pub notices_add : (z : Start) (h : List Entry) (s : ℕ) → IsLegal z h → z.routes s ≤ z.forwards s → outstanding z h s + routes z h s ≡ forwards z h s
 notices_add z h s l w = let few = routes_within_from z h s l w in omega arith
 
--- a run that goes on so makes one message at most
+-- a pass that goes on so makes one message at most
 one_message : (next : Then) (e : ℕ) (c : EndConfig) (s : ℕ) → length (messages_by next e c s) ≤ 1
 one_message Present e c s = omega arith
 one_message Escalate e c s = omega arith
@@ -153,7 +154,7 @@ route_forwarded z h x s k n e =
 pub once_forwarded : RoutedOnceForwarded
 once_forwarded b h l before after x s k is e = route_forwarded (start b) before x s k (legal_before (start b) after (x ∷ before) (subst (IsLegal (start b)) is l)).1 e
 
--- what a route's run writes for e is what is due there, by the four tests
+-- what a route's pass writes for e is what is due there, by the four tests
 writes_due_by : (s e k end eisn : ℕ) (valid masked v q : Bool) (w : Wrote) (t : Then) →
     option_map_or (λ n. if n == e then eisn ∷ [] else []) (wrote_in (run_of (op.Route s) (out.Routed k (if not valid then NoSource else (if masked then Masked else Run (if v then run.Ran end (if q then Some w else None) t else run.NoEnd end)))))) []
     ≡ due_at e (if valid && (not masked && (v && q)) then Some (record { end = end; payload = eisn }) else None)
@@ -165,12 +166,12 @@ writes_due_by s e k end eisn true false true true w t = refl
 
 -- what a route writes for e is what is due there, by its two tests
 enters_by : (z : Start) (h : List Entry) (s e : ℕ) (a b : Bool) →
-    let o = if a then out.NoNotice else (if b then out.BusFull else out.Routed (routes z h s + 1) (routed_by z h (assignment z h s))) in
-    option_map_or (λ n. if n == e then (assignment z h s).eisn ∷ [] else []) (wrote_in (run_of (op.Route s) o)) [] ≡ due_at e (due_of z h s o)
+    let o = if a then out.NoNotice else (if b then out.BusFull else out.Routed (routes z h s + 1) (routed_by z h (eas z h s))) in
+    option_map_or (λ n. if n == e then (eas z h s).eisn ∷ [] else []) (wrote_in (run_of (op.Route s) o)) [] ≡ due_at e (due_of z h s o)
 enters_by z h s e true b = refl
 enters_by z h s e false true = refl
 enters_by z h s e false false =
-    let a = assignment z h s in
+    let a = eas z h s in
     let c = end_config z h a.end in
     writes_due_by s e (routes z h s + 1) a.end a.eisn a.valid a.masked (is_valid c) (enqueues c) (wrote_at c (c.start + written_count z h a.end) a.eisn) (next_by c (esn z h a.end))
 

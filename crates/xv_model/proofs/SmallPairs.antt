@@ -1,5 +1,5 @@
 -- The pairs of a legal account are pairs.
-use Rattle.std.proofs.Common.{ℕ, ◌≡◌, ◌==◌, ◌<◌, ◌&&◌, nat_lt, ◌%◌, Bool, true, false, if◌then◌else◌, List, [], ◌∷◌, Option, Some, None, refl, sym, subst, arith, lit<, length}
+use Rattle.std.proofs.Common.{ℕ, ◌≡◌, ◌==◌, ◌<◌, ◌&&◌, nat_lt, ◌%◌, Bool, true, false, if◌then◌else◌, List, [], ◌∷◌, Option, Some, None, refl, sym, subst, arith, lit<}
 use Rattle.std.proofs.lemmas.Bool.{and_parts}
 use Rattle.std.proofs.lemmas.Bool.Decides.{nat_tests}
 use Rattle.std.specs.Option.{option_map_or}
@@ -9,18 +9,13 @@ use Rattle.xv_model.specs.declared.operations.Op.{Op}
 use Rattle.xv_model.specs.declared.operations.Op.TheVariants as op
 use Rattle.xv_model.specs.declared.operations.PqOp.{PqOp}
 use Rattle.xv_model.specs.declared.operations.PqOp.TheVariants.{Trigger, Eoi, Get, Set, Raise, Lower, Init}
-use Rattle.xv_model.specs.declared.outcomes.Outcome.{Outcome}
 use Rattle.xv_model.specs.declared.entries.Entry.{Entry}
-use Rattle.xv_model.specs.Start.{Start}
-use Rattle.xv_model.specs.Kinds.{WordAccess, access_of, page_op, load_op, store_op}
-use Rattle.xv_model.specs.PqTable.{Cell, pq_row}
-use Rattle.xv_model.specs.Pairs.{Touch, touch_of, touch_at, pq, asserted}
-use Rattle.xv_model.specs.Notices.{forwards, outstanding}
-use Rattle.xv_model.specs.Flight.{flight}
-use Rattle.xv_model.specs.Routing.{most_messages}
-use Rattle.xv_model.specs.Validity.{valid, valid_pq}
-use Rattle.xv_model.specs.Legal.{IsLegal, IsNext, is_level, most_forwards, answer_by, cell_after, word_answer, fabric_answer}
-use Rattle.xv_model.specs.Text.{HasText}
+use Rattle.xv_model.specs.account.Start.{Start}
+use Rattle.xv_model.specs.account.Kinds.{WordAccess, access_of, page_op, load_op, store_op}
+use Rattle.xv_model.specs.source.PqTable.{pq_row}
+use Rattle.xv_model.specs.source.Pairs.{Touch, touch_of, touch_at, pq, asserted}
+use Rattle.xv_model.specs.board.Validity.{valid, valid_pq}
+use Rattle.xv_model.specs.account.Legal.{IsLegal, is_level}
 use Rattle.xv_model.proofs.Touches.{legal_touch, touch_is}
 
 -- a set is to a pair
@@ -74,7 +69,7 @@ sets_access b (op.Esb s page offset store) a v e = sets_of s (page_op b page off
 sets_access b _ a v e = cc
 
 -- a row of the table gives a pair
-small_cell : (o : PqOp) (level on : Bool) (q : ℕ) → q < 4 → SetsPair o → (pq_row o level on q).pair < 4
+pub small_cell : (o : PqOp) (level on : Bool) (q : ℕ) → q < 4 → SetsPair o → (pq_row o level on q).pair < 4
 small_cell Trigger level on q l w = grind (arith, nat_tests)
 small_cell Eoi level on q l w = grind (arith, nat_tests)
 small_cell Get level on q l w = l
@@ -98,32 +93,3 @@ pq-below z (x ∷ h) s l w =
     let a : access_of z.board x.op ≡ Some (record { source = s; op = t.op }) = touch_is s (access_of z.board x.op) x.outcome t e in
     let sets : SetsPair t.op = sets_access z.board x.op _ l.1.valid_op a in
     subst (λ n. n < 4) (sym f.new) (small_cell t.op (is_level z.board s) (asserted z h s) (pq z h s) before sets)) before
-
--- of two outcomes that have texts each choice has one
-has_text_if : (b : Bool) (m n : Outcome) → HasText m → HasText n → HasText (if b then m else n)
-has_text_if true m n v w = v
-has_text_if false m n v w = w
-
--- an answer by a cell of a pair has a text
-answer_has_text : (c : Cell) (q n : ℕ) → q < 4 → c.pair < 4 → HasText (answer_by c q n)
-answer_has_text c q n l m = has_text_if c.forwards _ _ (has_text_if (n == most_forwards) _ _ tt (l, m)) (l, m)
-
--- an answer of the fabric has a text
-fabric_has_text : (z : Start) (h : List Entry) (o : Op) → HasText (fabric_answer z h o)
-fabric_has_text z h (op.Route s) = has_text_if (outstanding z h s == 0) _ _ tt (has_text_if (length (flight z h) == most_messages) _ _ tt tt)
-fabric_has_text z h (op.EndSet e c) = tt
-fabric_has_text z h (op.Hcall number args) = refl
-fabric_has_text z h _ = tt
-
--- the legal outcome of an operation has a text, by whether it is an access
-legal_has_text_by : (z : Start) (h : List Entry) (o : Op) (m : Option WordAccess) → ((a : WordAccess) → m ≡ Some a → SetsPair a.op) → ((s : ℕ) → pq z h s < 4) → HasText (option_map_or (word_answer z h) m (fabric_answer z h o))
-legal_has_text_by z h o None sets small = fabric_has_text z h o
-legal_has_text_by z h o (Some a) sets small =
-    answer_has_text (cell_after z h a) (pq z h a.source) (forwards z h a.source) (small a.source)
-    (small_cell a.op (is_level z.board a.source) (asserted z h a.source) (pq z h a.source) (small a.source) (sets a refl))
-
--- the outcome of the next entry of a legal account has a text
-pub legal_has_text : (z : Start) (h : List Entry) (x : Entry) → IsLegal z h → ((s : ℕ) → z.pair s < 4) → IsNext z h x → HasText x.outcome
-legal_has_text z h x l w n =
-    subst HasText (sym n.outcome)
-    (legal_has_text_by z h x.op (access_of z.board x.op) (λ a e. sets_access z.board x.op a n.valid_op e) (λ s. pq-below z h s l (w s)))

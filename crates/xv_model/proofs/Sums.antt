@@ -1,8 +1,7 @@
--- Sums and texts over the numbers below a number.
-use Rattle.std.proofs.Common.{ℕ, zero, suc, ◌≡◌, ◌+◌, ◌<◌, ◌≢◌, List, ◌++◌, refl, ◌∙◌, ap, subst, arith, inl, inr}
+-- Sums over the numbers below a number.
+use Rattle.std.proofs.Common.{ℕ, zero, suc, ◌≡◌, ◌+◌, ◌<◌, ◌≢◌, refl, subst, arith, inl, inr}
 use Rattle.std.proofs.lemmas.Bool.{cases_lt}
-use Rattle.xv_model.specs.Notices.{sum_below}
-use Rattle.xv_model.specs.Text.{texts_below}
+use Rattle.xv_model.specs.source.Notices.{sum_below}
 
 -- counts that agree at every number below n have one sum
 pub sum_below-same : (f g : ℕ → ℕ) (n : ℕ) → ((k : ℕ) → k < n → g k ≡ f k) → sum_below g n ≡ sum_below f n
@@ -32,11 +31,3 @@ sum_below-more_at f g (suc n) s k l here agree =
 pub sum_below-zero : (n : ℕ) → sum_below (λ k. 0) n ≡ 0
 sum_below-zero zero = refl
 sum_below-zero (suc n) = let before = sum_below-zero n in omega arith
-
--- texts that agree at every number below n make one text
-pub texts_below-same : (f g : ℕ → List ℕ) (n : ℕ) → ((k : ℕ) → k < n → g k ≡ f k) → texts_below g n ≡ texts_below f n
-texts_below-same f g zero agree = refl
-texts_below-same f g (suc n) agree =
-    let before = texts_below-same f g n (λ k l. agree k (omega arith)) in
-    let last = agree n (omega arith) in
-    ap (λ v. v ++ g n) before ∙ ap (λ v. texts_below f n ++ v) last

@@ -3,15 +3,16 @@ use Rattle.std.proofs.Common.{ℕ, ◌≡◌, ◌+◌, if◌then◌else◌, List
 use Rattle.std.proofs.lemmas.Bool.Decides.{nat_tests}
 use Rattle.std.specs.Option.{option_map_or}
 use Rattle.xv_model.specs.declared.operations.PqOp.{PqOp}
+use Rattle.xv_model.specs.declared.operations.Op.{Op}
 use Rattle.xv_model.specs.declared.outcomes.Outcome.{Outcome}
 use Rattle.xv_model.specs.declared.outcomes.Outcome.TheVariants as out
 use Rattle.xv_model.specs.declared.entries.Entry.{Entry}
-use Rattle.xv_model.specs.Start.{Start}
-use Rattle.xv_model.specs.Kinds.{WordAccess, access_of}
-use Rattle.xv_model.specs.PqTable.{Cell, pq_row}
-use Rattle.xv_model.specs.Pairs.{Touch, change_in, touch_by, touch_of, touch_at, pq, asserted}
-use Rattle.xv_model.specs.Notices.{forwards}
-use Rattle.xv_model.specs.Legal.{IsNext, is_level, answer_by, word_answer, fabric_answer}
+use Rattle.xv_model.specs.account.Start.{Start}
+use Rattle.xv_model.specs.account.Kinds.{WordAccess, access_of, Part, Word, part_beside}
+use Rattle.xv_model.specs.source.PqTable.{Cell, pq_row}
+use Rattle.xv_model.specs.source.Pairs.{Touch, change_in, touch_by, touch_of, touch_at, pq, asserted}
+use Rattle.xv_model.specs.source.Notices.{forwards}
+use Rattle.xv_model.specs.account.Legal.{IsNext, is_level, answer_by, word_answer, answer_on}
 
 -- the touch follows a cell of the table, with the pair q and n forwards before it
 pub record FollowsCell (c : Cell) (q n : ℕ) (t : Touch) : Type 0 where
@@ -48,15 +49,14 @@ followed z h s a o t e f g =
     (subst (λ o. FollowsCell (pq_row o (is_level z.board a.source) (asserted z h a.source) (pq z h a.source)) (pq z h a.source) (forwards z h a.source) t) same_op r.2)
 
 -- the same by whether there is an access
-legal_touch_by : (z : Start) (h : List Entry) (s : ℕ) (m : Option WordAccess) (other o : Outcome) (t : Touch) → o ≡ option_map_or (word_answer z h) m other → touch_at s (touch_by m (change_in o)) ≡ Some t → FollowsCell (cell_at z h s t) (pq z h s) (forwards z h s) t
-legal_touch_by z h s None other o t e f = cc
-legal_touch_by z h s (Some a) other o t e f =
-    let r = touch_at-some s (touch_by (Some a) (change_in o)) t f in followed z h s a o t e r.0 r.1
+legal_touch_by : (z : Start) (h : List Entry) (s : ℕ) (p : Op) (m : Option WordAccess) (other : Part) (o : Outcome) (t : Touch) → o ≡ answer_on z h p (option_map_or Word m other) → touch_at s (touch_by m (change_in o)) ≡ Some t → FollowsCell (cell_at z h s t) (pq z h s) (forwards z h s) t
+legal_touch_by z h s p None other o t e f = cc
+legal_touch_by z h s p (Some a) other o t e f = let r = touch_at-some s (touch_by (Some a) (change_in o)) t f in followed z h s a o t e r.0 r.1
 
 -- a touch of s in a legal account follows the table's row for the pair, flag and forwards before it
 pub legal_touch : (z : Start) (h : List Entry) (s : ℕ) (x : Entry) (t : Touch) → IsNext z h x → touch_at s (touch_of z.board x) ≡ Some t → FollowsCell (cell_at z h s t) (pq z h s) (forwards z h s) t
-legal_touch z h s x t n f = legal_touch_by z h s (access_of z.board x.op) (fabric_answer z h x.op) x.outcome t n.outcome f
+legal_touch z h s x t n f = legal_touch_by z h s x.op (access_of z.board x.op) (part_beside x.op) x.outcome t n.outcome f
 
 -- the outcome of an access to s in a legal account is the answer by the cell of s
 pub word_outcome : (z : Start) (h : List Entry) (s : ℕ) (x : Entry) (o : PqOp) → IsNext z h x → access_of z.board x.op ≡ Some (record { source = s; op = o }) → x.outcome ≡ answer_by (pq_row o (is_level z.board s) (asserted z h s) (pq z h s)) (pq z h s) (forwards z h s)
-word_outcome z h s x o n e = n.outcome ∙ ap (λ m. option_map_or (word_answer z h) m (fabric_answer z h x.op)) e
+word_outcome z h s x o n e = n.outcome ∙ ap (λ m. answer_on z h x.op (option_map_or Word m (part_beside x.op))) e

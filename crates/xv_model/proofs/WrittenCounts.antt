@@ -6,10 +6,10 @@ use Rattle.xv_model.specs.declared.operations.Op.{Op}
 use Rattle.xv_model.specs.declared.operations.Op.TheVariants as op
 use Rattle.xv_model.specs.declared.outcomes.Outcome.{Outcome}
 use Rattle.xv_model.specs.declared.entries.Entry.{Entry}
-use Rattle.xv_model.specs.Start.{Start}
-use Rattle.xv_model.specs.Kinds.{run_of}
-use Rattle.xv_model.specs.Descriptors.{config_by, since_config}
-use Rattle.xv_model.specs.Written.{wrote_in, payload_of, entered, written}
+use Rattle.xv_model.specs.account.Start.{Start}
+use Rattle.xv_model.specs.account.Kinds.{run_of}
+use Rattle.xv_model.specs.end.Descriptors.{config_by, since_config}
+use Rattle.xv_model.specs.end.Written.{wrote_in, payload_of, entered, written}
 
 -- whether a route wrote into the queue of e
 abbrev pub wrote_for : ℕ → Op → Outcome → Bool

@@ -1,9 +1,10 @@
 //! A board: how many of each thing it has, and of which kind.
 
 ghost use Rattle.std.specs.Prelude.{◌≡◌, ◌≤◌};
-ghost use Rattle.xv_model.specs.Boards.{is_in};
+ghost use Rattle.xv_model.specs.board.Boards.{is_in};
 
 use xv_base::Limits;
+use xv_base::limits::MOST_RANGES;
 
 /// The numbers from `first` to `last`, both among them; `first` is at most `last`.
 #[derive(Clone, Copy)]
@@ -12,17 +13,17 @@ pub struct Span {
     pub last: u32,
 }
 
-/// Some numbers: those in the first `count` spans, which are at most 16. The other spans are 0 and 0.
+/// Some numbers: those in the first `count` ranges, which are at most [`MOST_RANGES`]. The spans beyond are 0 and 0.
 #[derive(Clone, Copy)]
 pub struct Spans {
     pub count: u8,
-    pub spans: [Span; 16],
+    pub spans: [Span; MOST_RANGES as usize],
 }
 
 impl Spans {
-    /// Whether a number is in one of the spans.
+    /// Whether a number is in one of the ranges.
     pub fn has(&self, n: u32) -> bool
-        requires { self.now.count ≤ 16 }
+        requires { self.now.count ≤ MOST_RANGES }
         ensures { result ≡ is_in self.now n }
     {
         self.spans[..self.count as usize]
@@ -43,7 +44,7 @@ pub struct Board {
     pub store_eoi: bool,
     /// The level sources; all others are message sources.
     pub level: Spans,
-    /// The sources that start without a valid event assignment.
+    /// The sources that start without a valid EAS.
     pub unclaimed: Spans,
     /// The processors that start unconnected.
     pub unconnected: Spans,

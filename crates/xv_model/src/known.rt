@@ -1,11 +1,11 @@
-//! What is known of an account by what stands for it.
+//! What is known of an account by what represents it.
 
 ghost use Rattle.std.specs.Prelude.{◌≡◌, ◌<◌, ℕ, List};
 ghost use Rattle.xv_model.specs.declared.entries.Entry.{Entry};
-ghost use Rattle.xv_model.specs.Start.{Start};
-ghost use Rattle.xv_model.specs.Pairs.{pq};
-ghost use Rattle.xv_model.specs.Notices.{outstanding};
-ghost use Rattle.xv_model.specs.Assignments.{initialised};
+ghost use Rattle.xv_model.specs.account.Start.{Start};
+ghost use Rattle.xv_model.specs.source.Pairs.{pq};
+ghost use Rattle.xv_model.specs.source.Notices.{outstanding};
+ghost use Rattle.xv_model.specs.source.Eas.{initialised};
 
 /// What a line of several steps asks of the account so far.
 pub trait Known {
@@ -15,12 +15,12 @@ pub trait Known {
     /// It knows of the sources below this number.
     ghost sources: { Self → ℕ };
 
-    /// How many notices of a source are out.
+    /// How many notices of a source are outstanding.
     fn out(&self, s: u32) -> u64
         requires { s < sources self.now }
         ensures { (z : Start) (h : List Entry) → knows self.now z h → result ≡ outstanding z h s };
 
-    /// Whether a source has a valid event assignment.
+    /// Whether a source has a valid EAS.
     fn initialised(&self, s: u32) -> bool
         requires { s < sources self.now }
         ensures { (z : Start) (h : List Entry) → knows self.now z h → result ≡ initialised z h s };
@@ -31,8 +31,8 @@ pub trait Known {
         ensures { (z : Start) (h : List Entry) → knows self.now z h → result ≡ pq z h s };
 }
 
-/// What stands, from a start record, for a list of fabric entries.
+/// What represents a list of fabric entries that go on from a start record.
 pub trait Stands {
-    /// It stands for these fabric entries, which go on from this start record.
+    /// It represents these fabric entries, which go on from this start record.
     ghost stands: { Self → Start → List Entry → Type 0 };
 }

@@ -1,12 +1,13 @@
 //! Laws of every legal account. The functions do nothing; their contracts are the laws.
 
-ghost use Rattle.xv_model.specs.Scripts.{OneAccount};
-ghost use Rattle.xv_model.specs.Entering.{EachEntersOnce, RoutedInOrder, RoutedOnceForwarded};
-ghost use Rattle.xv_model.specs.Triggers.{CoalescedComesAgain, EachTriggerAccounted, NumberedInOrder};
+ghost use Rattle.xv_model.specs.account.Scripts.{EachHasAccount, OneAccount};
+ghost use Rattle.xv_model.specs.laws.Entering.{EachEntersOnce, RoutedInOrder, RoutedOnceForwarded};
+ghost use Rattle.xv_model.specs.laws.Triggers.{CoalescedComesAgain, EachTriggerAccounted, NumberedInOrder};
 
 /// Of lines and the accounts that follow them.
 pub fn scripts()
     ensures one_account { OneAccount }
+    ensures has_account { EachHasAccount }
 {}
 
 /// Of the triggers of a source.

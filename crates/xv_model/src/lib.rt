@@ -2,9 +2,10 @@
 //! definitions of what they mean. Nothing here runs a board.
 #![tactic(auto)]
 
-pub mod assignments;
 pub mod board;
+pub mod eas;
 pub mod entries;
+pub mod hypercalls;
 pub mod known;
 pub mod laws;
 pub mod messages;

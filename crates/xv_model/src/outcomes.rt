@@ -107,7 +107,7 @@ pub enum Outcome {
         presented: Presented,
         escalates: bool,
     },
-    /// No run where the END's state coalesced the escalation.
+    /// No pass where the END's state coalesced the escalation.
     Escalated {
         e: u32,
         run: Option<EndRun>,

@@ -1,14 +1,13 @@
 //! Which operations a board has.
 
 ghost use Rattle.std.specs.Prelude.{◌≡◌};
-ghost use Rattle.xv_model.specs.Validity.{valid as is_valid, valid_pq, is_queue_shift, is_queue as may_be_queue, has_queue as has_its_queue, never_escalates, has_nothing, notifies_one, valid_config as may_be_config};
+ghost use Rattle.xv_model.specs.board.Validity.{valid as is_valid, valid_pq, is_queue_shift, is_queue as may_be_queue, has_queue as has_its_queue, never_escalates, has_nothing, notifies_one, valid_config as may_be_config};
 
 use crate::board::Board;
+use crate::hypercalls::H_INT_SET_SOURCE_CONFIG;
 use crate::operations::{EndConfig, EndFlags, Op, PqOp};
 use bitflags::Flags;
-
-/// The number of the hypercall that configures a source.
-pub const SET_SOURCE_CONFIG: u64 = 0x3ac;
+use xv_base::limits::ENDS_PER_PROCESSOR;
 
 /// Whether an operation on a source's pair is built, and its pair is one.
 fn valid_on_pair(op: PqOp) -> bool
@@ -73,7 +72,7 @@ fn notifies(board: &Board, config: &EndConfig) -> bool
 {
     config.flags.bits() < 16
         && config.vp < board.limits.processors
-        && config.priority < 8
+        && (config.priority as u32) < ENDS_PER_PROCESSOR
         && escalates_nowhere(config)
 }
 
@@ -100,9 +99,10 @@ pub fn valid(board: &Board, op: &Op) -> bool
         Op::Pq { s, op } => *s < board.limits.sources && valid_on_pair(*op),
         Op::Route { s } => *s < board.limits.sources,
         Op::EndSet { e, config } => {
-            (*e as u64) < 8 * board.limits.processors as u64 && valid_config(board, config)
+            (*e as u64) < ENDS_PER_PROCESSOR as u64 * board.limits.processors as u64
+                && valid_config(board, config)
         }
-        Op::Hcall { number, args: _ } => *number == SET_SOURCE_CONFIG,
+        Op::Hcall { number, args: _ } => *number == H_INT_SET_SOURCE_CONFIG,
         _ => false,
     }
 }

@@ -1,0 +1,59 @@
+-- Which operations a board has.
+use Rattle.std.specs.Prelude.{ℕ, ◌==◌, ◌+◌, ◌*◌, ◌^◌, ◌%◌, nat_lt, nat_le, ◌&&◌, ◌||◌, Bool, true, false, if◌then◌else◌}
+use Rattle.xv_base.specs.Limits.{ends_per_processor}
+use Rattle.xv_model.specs.declared.hypercalls.TheConstants.{H_INT_SET_SOURCE_CONFIG}
+use Rattle.xv_model.specs.declared.board.Board.{Board}
+use Rattle.xv_model.specs.declared.operations.PqOp.{PqOp}
+use Rattle.xv_model.specs.declared.operations.PqOp.TheVariants.{Trigger, Eoi, Get, Set}
+use Rattle.xv_model.specs.declared.operations.EndConfig.{EndConfig}
+use Rattle.xv_model.specs.declared.operations.Op.{Op}
+use Rattle.xv_model.specs.declared.operations.Op.TheVariants as op
+use Rattle.xv_model.specs.end.Flags.{is_valid, enqueues}
+
+-- whether an operation on a pair is built, and its pair is one
+abbrev pub valid_pq : PqOp → Bool
+valid_pq Trigger = true
+valid_pq Eoi = true
+valid_pq Get = true
+valid_pq (Set new) = nat_lt new 4
+valid_pq _ = false
+
+-- the bytes of a board's memory
+abbrev pub ram_size : Board → ℕ
+ram_size b = b.ram_mib * 2 ^ 20
+
+-- whether a queue may have 2 to the power of this many bytes: 4 KiB, 64 KiB, 2 MiB or 16 MiB
+abbrev pub is_queue_shift : ℕ → Bool
+is_queue_shift shift = (shift == 12) || ((shift == 16) || ((shift == 21) || (shift == 24)))
+
+-- whether a queue is one that a board can have: it is aligned, and lies in memory
+abbrev pub is_queue : Board → ℕ → ℕ → Bool
+is_queue b addr shift = is_queue_shift shift && ((addr % 2 ^ shift == 0) && nat_le (addr + 2 ^ shift) (ram_size b))
+
+-- whether a configuration has a queue where it has q, and none where it hasn't
+abbrev pub has_queue : Board → EndConfig → Bool
+has_queue b c = if enqueues c then is_queue b c.qaddr c.qshift else (c.qaddr == 0) && (c.qshift == 0)
+
+-- whether a configuration without e has no escalation END
+abbrev pub never_escalates : EndConfig → Bool
+never_escalates c = (c.esc == 0) && (c.esc_eisn == 0)
+
+-- whether all fields but those of the queue and its start are 0
+abbrev pub has_nothing : EndConfig → Bool
+has_nothing c = (c.flags.0 == 0) && ((c.vp == 0) && ((c.priority == 0) && never_escalates c))
+
+-- whether the flags, the target and the priority are in range: the flags that are built are v, q, n and b
+abbrev pub notifies_one : Board → EndConfig → Bool
+notifies_one b c = nat_lt c.flags.0 16 && (nat_lt c.vp b.limits.processors && (nat_lt c.priority ends_per_processor && never_escalates c))
+
+-- whether an END may be configured so: without v there is nothing else
+abbrev pub valid_config : Board → EndConfig → Bool
+valid_config b c = (c.start == 0) && (has_queue b c && (if is_valid c then notifies_one b c else has_nothing c))
+
+-- whether an operation is built, and each of its numbers is in range
+abbrev pub valid : Board → Op → Bool
+valid b (op.Pq s o) = nat_lt s b.limits.sources && valid_pq o
+valid b (op.Route s) = nat_lt s b.limits.sources
+valid b (op.EndSet e c) = nat_lt e (ends_per_processor * b.limits.processors) && valid_config b c
+valid b (op.Hcall number args) = number == H_INT_SET_SOURCE_CONFIG
+valid b _ = false

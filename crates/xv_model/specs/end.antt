@@ -1,0 +1,6 @@
+pub mod Flags
+pub mod Descriptors
+pub mod EventStates
+pub mod Written
+pub mod Memory
+pub mod Reading

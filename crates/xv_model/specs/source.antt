@@ -1,0 +1,4 @@
+pub mod PqTable
+pub mod Pairs
+pub mod Notices
+pub mod Eas

@@ -1,0 +1,181 @@
+//! How an END may be configured.
+
+use crate::board::Board;
+use crate::operations::{EndConfig, EndFlags, Op};
+use crate::tests::small_board;
+use crate::validity::{valid, valid_config};
+use bitflags::Flags;
+
+/// An END with a queue of 64 KiB, the last one that lies in the memory of the small board.
+fn with_queue() -> EndConfig {
+    EndConfig {
+        flags: EndFlags::VALID | EndFlags::ENQUEUE,
+        vp: 1,
+        priority: 7,
+        qaddr: 0x3f0000,
+        qshift: 16,
+        start: 0,
+        esc: 0,
+        esc_eisn: 0,
+    }
+}
+
+#[test]
+fn valid_ends(rt: HostRuntime) {
+    let board = small_board();
+    let config = with_queue();
+    assert!(rt; valid(&board, &Op::EndSet { e: 15, config }));
+    assert!(rt; !valid(&board, &Op::EndSet { e: 16, config }));
+    let config = EndConfig {
+        vp: 2,
+        ..with_queue()
+    };
+    assert!(rt; !valid(&board, &Op::EndSet { e: 0, config }));
+    let config = EndConfig {
+        priority: 8,
+        ..with_queue()
+    };
+    assert!(rt; !valid(&board, &Op::EndSet { e: 0, config }));
+    let config = EndConfig {
+        start: 1,
+        ..with_queue()
+    };
+    assert!(rt; !valid(&board, &Op::EndSet { e: 0, config }));
+    let config = EndConfig {
+        esc: 1,
+        ..with_queue()
+    };
+    assert!(rt; !valid(&board, &Op::EndSet { e: 0, config }));
+    let config = EndConfig {
+        esc_eisn: 1,
+        ..with_queue()
+    };
+    assert!(rt; !valid(&board, &Op::EndSet { e: 0, config }));
+}
+
+#[test]
+fn valid_flags(rt: HostRuntime) {
+    let board = small_board();
+    let fifteen = EndConfig {
+        flags: EndFlags::from_bits_retain(15),
+        ..with_queue()
+    };
+    assert!(rt; valid_config(&board, &fifteen));
+    let escalates = EndConfig {
+        flags: EndFlags::from_bits_retain(19),
+        ..with_queue()
+    };
+    assert!(rt; !valid_config(&board, &escalates));
+    let alone = EndConfig {
+        flags: EndFlags::from_bits_retain(16),
+        ..EndConfig::OFF
+    };
+    assert!(rt; !valid_config(&board, &alone));
+}
+
+#[test]
+fn valid_queues(rt: HostRuntime) {
+    let board = small_board();
+    assert!(rt; valid_config(&board, &with_queue()));
+    let small = EndConfig {
+        qaddr: 0x3ff000,
+        qshift: 12,
+        ..with_queue()
+    };
+    assert!(rt; valid_config(&board, &small));
+    let large = EndConfig {
+        qaddr: 0x200000,
+        qshift: 21,
+        ..with_queue()
+    };
+    assert!(rt; valid_config(&board, &large));
+    // 16 MiB are more than there are, at any address
+    let largest = EndConfig {
+        qaddr: 0,
+        qshift: 24,
+        ..with_queue()
+    };
+    assert!(rt; !valid_config(&board, &largest));
+    let more_memory = Board {
+        ram_mib: 16,
+        ..board
+    };
+    assert!(rt; valid_config(&more_memory, &largest));
+    let odd_size = EndConfig {
+        qaddr: 0,
+        qshift: 13,
+        ..with_queue()
+    };
+    assert!(rt; !valid_config(&board, &odd_size));
+    let no_size = EndConfig {
+        qaddr: 0,
+        qshift: 0,
+        ..with_queue()
+    };
+    assert!(rt; !valid_config(&board, &no_size));
+    let unaligned = EndConfig {
+        qaddr: 0x1000,
+        ..with_queue()
+    };
+    assert!(rt; !valid_config(&board, &unaligned));
+    let beyond = EndConfig {
+        qaddr: 0x400000,
+        ..with_queue()
+    };
+    assert!(rt; !valid_config(&board, &beyond));
+    let at_the_top = EndConfig {
+        qaddr: 0xffffffffffff0000,
+        ..with_queue()
+    };
+    assert!(rt; !valid_config(&board, &at_the_top));
+}
+
+#[test]
+fn valid_without_queue(rt: HostRuntime) {
+    let board = small_board();
+    let no_queue = EndConfig {
+        flags: EndFlags::VALID,
+        qaddr: 0,
+        qshift: 0,
+        ..with_queue()
+    };
+    assert!(rt; valid_config(&board, &no_queue));
+    let has_address = EndConfig {
+        qaddr: 0x10000,
+        ..no_queue
+    };
+    assert!(rt; !valid_config(&board, &has_address));
+    let has_size = EndConfig {
+        qshift: 16,
+        ..no_queue
+    };
+    assert!(rt; !valid_config(&board, &has_size));
+}
+
+#[test]
+fn valid_without_v(rt: HostRuntime) {
+    let board = small_board();
+    assert!(rt; valid_config(&board, &EndConfig::OFF));
+    let has_flag = EndConfig {
+        flags: EndFlags::NOTIFY_ALWAYS,
+        ..EndConfig::OFF
+    };
+    assert!(rt; !valid_config(&board, &has_flag));
+    let has_target = EndConfig {
+        vp: 1,
+        ..EndConfig::OFF
+    };
+    assert!(rt; !valid_config(&board, &has_target));
+    let has_priority = EndConfig {
+        priority: 1,
+        ..EndConfig::OFF
+    };
+    assert!(rt; !valid_config(&board, &has_priority));
+    let has_queue = EndConfig {
+        flags: EndFlags::ENQUEUE,
+        vp: 0,
+        priority: 0,
+        ..with_queue()
+    };
+    assert!(rt; !valid_config(&board, &has_queue));
+}
