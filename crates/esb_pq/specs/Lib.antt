@@ -1,0 +1,4 @@
+pub mod Applied
+pub mod Packing
+pub mod Rows
+pub mod Word
