@@ -5,14 +5,13 @@ use Rattle.xv_model.specs.declared.operations.PqOp.{PqOp}
 use Rattle.xv_model.specs.declared.operations.Op.TheVariants as op
 use Rattle.xv_model.specs.declared.outcomes.Outcome.{Outcome}
 use Rattle.xv_model.specs.declared.entries.Entry.{Entry}
-use Rattle.xv_model.specs.Start.{Start}
-use Rattle.xv_model.specs.Descriptors.{end_config, until_config}
-use Rattle.xv_model.specs.EventStates.{esn, ese}
-use Rattle.xv_model.specs.Written.{written}
-use Rattle.xv_model.specs.Flight.{flight}
+use Rattle.xv_model.specs.account.Start.{Start}
+use Rattle.xv_model.specs.end.Descriptors.{end_config, until_config}
+use Rattle.xv_model.specs.end.EventStates.{esn, ese}
+use Rattle.xv_model.specs.end.Written.{written}
+use Rattle.xv_model.specs.route.Flight.{flight}
 use Rattle.router.specs.declared.ends.EndRecord.{EndRecord}
-use Rattle.router.specs.Kept.{Kept}
-use Rattle.router.specs.Standing.{StandsFor, end_of}
+use Rattle.router.specs.Tables.{Kept, StandsFor, end_of}
 
 -- an END into whose queue nothing more is written
 pub nothing_entered : (z : Start) (h : List Entry) (e : ℕ) →
@@ -23,7 +22,7 @@ nothing_entered z h e = ap (λ ws. let r : EndRecord = record { config = end_con
 pub word_keeps : (t : Kept) (z : Start) (h : List Entry) (s actor : ℕ) (o : PqOp) (r : Outcome) → StandsFor t z h → StandsFor t z (record { actor = actor; op = op.Pq s o; outcome = r } ∷ h)
 word_keeps t z h s actor o r st = record {
   board = st.board;
-  assignments = st.assignments;
+  eases = st.eases;
   routes = λ q l. st.routes q l ∙ ap Some (omega arith);
   ends = λ e l. st.ends e l ∙ ap Some (sym (nothing_entered z h e));
   messages = st.messages ∙ sym (append-nil (flight z h));

@@ -1,6 +1,7 @@
 -- Lemmas.
+pub mod Configured
 pub mod Elements
 pub mod Keeping
 pub mod Ranges
+pub mod Routed
 pub mod Starting
-pub mod Stepping

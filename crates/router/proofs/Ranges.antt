@@ -1,18 +1,19 @@
 -- What stays in range.
-use Rattle.std.proofs.Common.{ℕ, ◌≡◌, ◌<◌, ◌≤◌, ◌+◌, Bool, true, false, if◌then◌else◌, List, length, arith, slice_set}
+use Rattle.std.proofs.Common.{ℕ, ◌≡◌, ◌<◌, ◌≤◌, ◌+◌, ◌^◌, Bool, true, false, if◌then◌else◌, List, length, arith, slice_set}
 use Rattle.std.specs.Prelude.{All}
 use Rattle.std.proofs.lemmas.Bool.Decides.{nat_tests}
 use Rattle.std.proofs.lemmas.List.Elements.{All-set, All-get_or}
-use Rattle.xv_model.specs.declared.assignments.Assignment.{Assignment}
+use Rattle.xv_model.specs.declared.eas.Eas.{Eas}
 use Rattle.xv_model.specs.declared.board.Board.{Board}
 use Rattle.xv_model.specs.declared.operations.EndConfig.{EndConfig}
-use Rattle.xv_model.specs.Flags.{is_valid, enqueues}
-use Rattle.xv_model.specs.PqTable.{trigger_row}
-use Rattle.xv_model.specs.EventStates.{asks_state}
-use Rattle.xv_model.specs.Validity.{valid_config}
+use Rattle.xv_model.specs.end.Flags.{is_valid, enqueues}
+use Rattle.xv_model.specs.source.PqTable.{trigger_row}
+use Rattle.xv_model.specs.end.EventStates.{asks_state}
+use Rattle.xv_model.specs.board.Validity.{valid_config}
 use Rattle.router.specs.declared.ends.EndRecord.{EndRecord}
-use Rattle.router.specs.Range.{IsEnd, HasWrittenAtMost}
-use Rattle.router.specs.Runs.{first_end, end_in, configured, enqueued, notified, after_run, runs, ends_after}
+use Rattle.router.specs.Ends.{first_end, end_in, configured, IsEnd, HasCountsAtMost, HasRoom}
+use Rattle.router.specs.Passes.{enqueued, notified, after_pass}
+use Rattle.router.specs.Routing.{reaches_end, ends_after}
 
 small_first : (valid : Bool) → (if valid then 0 else 1) < 4
 small_first true = omega arith
@@ -29,8 +30,8 @@ small_state : (asks : Bool) (q : ℕ) → q < 4 → (if asks then (trigger_row q
 small_state true q l = small_row q
 small_state false q l = l
 
-after_run_in_range : (b : Board) (r : EndRecord) → IsEnd b r → IsEnd b (after_run r)
-after_run_in_range b r i = by (is_valid r.config)
+after_pass_in_range : (b : Board) (r : EndRecord) → IsEnd b r → IsEnd b (after_pass r)
+after_pass_in_range b r i = by (is_valid r.config)
   where
     by : (valid : Bool) → IsEnd b (if valid then notified (enqueued r) else r)
     by true = record { config = i.config; esn = small_state (asks_state r.config) r.esn i.esn; ese = i.ese }
@@ -40,27 +41,32 @@ one_more : (writes : Bool) (w n : ℕ) → w ≤ n → (if writes then w + 1 els
 one_more true w n l = omega arith
 one_more false w n l = omega arith
 
-after_run_written : (n : ℕ) (r : EndRecord) → HasWrittenAtMost n r → HasWrittenAtMost (n + 1) (after_run r)
-after_run_written n r l = by (is_valid r.config)
+counted : (n : ℕ) (r : EndRecord) → HasCountsAtMost n r → HasCountsAtMost (n + 1) (after_pass r)
+counted n r l = by (is_valid r.config)
   where
-    by : (valid : Bool) → HasWrittenAtMost (n + 1) (if valid then notified (enqueued r) else r)
-    by true = one_more (enqueues r.config) r.written n l
-    by false = omega arith
+    by : (valid : Bool) → HasCountsAtMost (n + 1) (if valid then notified (enqueued r) else r)
+    by true = record { written = one_more (enqueues r.config) r.written n l.written; taken = omega arith }
+    by false = record { written = omega arith; taken = omega arith }
 
 -- the ENDs after a notice
-pub ends_in_range : (b : Board) (ends : List EndRecord) (a : Assignment) → a.end < length ends → All (IsEnd b) ends → All (IsEnd b) (ends_after ends a)
-ends_in_range b ends a l all = by (runs a)
+pub ends_in_range : (b : Board) (ends : List EndRecord) (a : Eas) → a.end < length ends → All (IsEnd b) ends → All (IsEnd b) (ends_after ends a)
+ends_in_range b ends a l all = by (reaches_end a)
   where
-    by : (going : Bool) → All (IsEnd b) (if going then slice_set ends a.end (after_run (end_in ends a.end)) else ends)
-    by true = All-set (IsEnd b) ends a.end (after_run (end_in ends a.end)) (after_run_in_range b (end_in ends a.end) (All-get_or (IsEnd b) ends a.end first_end l all)) all
+    by : (going : Bool) → All (IsEnd b) (if going then slice_set ends a.end (after_pass (end_in ends a.end)) else ends)
+    by true = All-set (IsEnd b) ends a.end (after_pass (end_in ends a.end)) (after_pass_in_range b (end_in ends a.end) (All-get_or (IsEnd b) ends a.end first_end l all)) all
     by false = all
 
-pub ends_written : (n : ℕ) (ends : List EndRecord) (a : Assignment) → a.end < length ends → All (HasWrittenAtMost n) ends → All (HasWrittenAtMost (n + 1)) (ends_after ends a)
-ends_written n ends a l all = by (runs a)
-  where
-    more : All (HasWrittenAtMost (n + 1)) ends
-    more k d inside = let before = all k d inside in omega arith
+-- counts that are at most n are at most one more
+pub one_more_in_all : (n : ℕ) (ends : List EndRecord) → All (HasCountsAtMost n) ends → All (HasCountsAtMost (n + 1)) ends
+one_more_in_all n ends all k d inside = let before = all k d inside in record { written = omega arith; taken = omega arith }
 
-    by : (going : Bool) → All (HasWrittenAtMost (n + 1)) (if going then slice_set ends a.end (after_run (end_in ends a.end)) else ends)
-    by true = All-set (HasWrittenAtMost (n + 1)) ends a.end (after_run (end_in ends a.end)) (after_run_written n (end_in ends a.end) (All-get_or (HasWrittenAtMost n) ends a.end first_end l all)) more
-    by false = more
+pub ends_counted : (n : ℕ) (ends : List EndRecord) (a : Eas) → a.end < length ends → All (HasCountsAtMost n) ends → All (HasCountsAtMost (n + 1)) (ends_after ends a)
+ends_counted n ends a l all = by (reaches_end a)
+  where
+    by : (going : Bool) → All (HasCountsAtMost (n + 1)) (if going then slice_set ends a.end (after_pass (end_in ends a.end)) else ends)
+    by true = All-set (HasCountsAtMost (n + 1)) ends a.end (after_pass (end_in ends a.end)) (counted n (end_in ends a.end) (All-get_or (HasCountsAtMost n) ends a.end first_end l all)) (one_more_in_all n ends all)
+    by false = one_more_in_all n ends all
+
+-- ENDs whose counts are at most n, below 2^63, have room
+pub have_room : (n : ℕ) (ends : List EndRecord) → n < 2 ^ 63 → All (HasCountsAtMost n) ends → All HasRoom ends
+have_room n ends l all k d inside = let before = all k d inside in record { written = omega arith; taken = omega arith }

@@ -1,7 +1,6 @@
--- What the router keeps, and what it stands for.
-pub mod Accepted
-pub mod First
-pub mod Kept
-pub mod Range
-pub mod Runs
-pub mod Standing
+-- What the router keeps, and which account that represents.
+pub mod Configuring
+pub mod Ends
+pub mod Passes
+pub mod Routing
+pub mod Tables

@@ -1,71 +1,68 @@
 //! Configurations of ENDs and sources.
 
-ghost use Rattle.std.specs.Prelude.{◌≡◌, ◌≢◌, ◌<◌, ◌+◌, ◌*◌, ◌^◌, ◌∷◌, ℕ, List, true, false};
+ghost use Rattle.std.specs.Prelude.{◌≡◌, ◌≢◌, ◌<◌, ◌+◌, ◌*◌, ◌^◌, ◌∷◌, ℕ, List, All, IsTrue, false};
+ghost use Rattle.xv_base.specs.Limits.{ends_per_processor};
 ghost use Rattle.xv_model.specs.declared.entries.Entry.{Entry};
 ghost use Rattle.xv_model.specs.declared.operations.Op.TheVariants.{EndSet, Hcall};
 ghost use Rattle.xv_model.specs.declared.outcomes.Outcome.TheVariants.{Fine, Reply};
-ghost use Rattle.xv_model.specs.Start.{Start};
-ghost use Rattle.xv_model.specs.Assignments.{set_source_config as number_of_call, source_config, is_success, assigned_by};
-ghost use Rattle.xv_model.specs.Hypercalls.{is_source, is_target, source_config_code, bare_reply as bare_reply_of, hcall_reply};
-ghost use Rattle.xv_model.specs.Validity.{valid_config};
-ghost use Rattle.router.specs.Accepted.{IsAccepted};
-ghost use Rattle.router.specs.Standing.{StandsFor};
+ghost use Rattle.xv_model.specs.account.Start.{Start};
+ghost use Rattle.xv_model.specs.declared.hypercalls.TheConstants.{H_INT_SET_SOURCE_CONFIG};
+ghost use Rattle.xv_model.specs.source.Eas.{is_success, eas_by};
+ghost use Rattle.xv_model.specs.call.Hypercalls.{is_source, is_target, source_config_code};
+ghost use Rattle.xv_model.specs.call.Hypercalls.{bare_reply as bare_reply_of, hcall_reply};
+ghost use Rattle.xv_model.specs.board.Validity.{valid_config};
+ghost use Rattle.router.specs.Configuring.{IsAccepted};
+ghost use Rattle.router.specs.Ends.{HasCountsAtMost};
+ghost use Rattle.router.specs.Tables.{StandsFor};
 
 use crate::tables::Tables;
-use xv_model::assignments::Assignment;
+use xv_base::limits::ENDS_PER_PROCESSOR;
+use xv_model::eas::Eas;
+use xv_model::hypercalls::{
+    H_P2, H_P3, H_P4, H_PARAMETER, H_SUCCESS, PRIORITY_MASKED, PRIORITY_RESERVED, SRC_FLAGS,
+    SRC_MASK, SRC_SET_EISN, SetSourceConfig,
+};
 use xv_model::operations::EndConfig;
 use xv_model::outcomes::HReply;
 
-/// The codes of hypercalls.
-const H_SUCCESS: i64 = 0;
-
-const H_PARAMETER: i64 = -4;
-
-const H_P2: i64 = -55;
-
-const H_P3: i64 = -56;
-
-const H_P4: i64 = -57;
-
-/// The priority that masks a source and forgets its END.
-const MASKED_OFF: u64 = 0xff;
-
 impl Tables {
-    /// Whether a number is that of a source with a valid assignment.
+    /// Whether a number is that of a source with a valid EAS.
     fn is_source(&self, s: u64) -> bool
-        ensures value { (z : Start) (h : List Entry) → StandsFor self.now z h → result ≡ is_source z h s }
-        ensures source { result ≡ true → s < self.now.board.limits.sources }
+        ensures value { (z : Start) (h : List Entry)
+            → StandsFor self.now z h → result ≡ is_source z h s }
+        ensures source { IsTrue result → s < self.now.board.limits.sources }
     {
-        s < self.board.limits.sources as u64 && self.assignments[s as usize].valid
+        s < self.board.limits.sources as u64 && self.eases[s as usize].valid
     }
 
     /// Whether a number is that of a connected processor.
     fn is_target(&self, v: u64) -> bool
-        ensures value { (z : Start) (h : List Entry) → StandsFor self.now z h → result ≡ is_target z h v }
-        ensures target { result ≡ true → v < self.now.board.limits.processors }
+        ensures value { (z : Start) (h : List Entry)
+            → StandsFor self.now z h → result ≡ is_target z h v }
+        ensures target { IsTrue result → v < self.now.board.limits.processors }
     {
         v < self.board.limits.processors as u64 && !self.board.unconnected.has(v as u32)
     }
 
-    /// The code of SET_SOURCE_CONFIG.
-    fn source_config_code(&self, args: &[u64; 5]) -> i64
-        ensures value { (z : Start) (h : List Entry) → StandsFor self.now z h → result ≡ source_config_code z h (source_config args.now) }
-        ensures accepted { is_success result ≡ true → IsAccepted self.now.board (source_config args.now) }
+    /// The code of H_INT_SET_SOURCE_CONFIG.
+    fn source_config_code(&self, config: &SetSourceConfig) -> i64
+        ensures value { (z : Start) (h : List Entry)
+            → StandsFor self.now z h → result ≡ source_config_code z h config.now }
+        ensures accepted { IsTrue (is_success result) → IsAccepted self.now.board config.now }
     {
-        let [flags, source, target, priority, _] = *args;
-        if flags > 3 {
+        if config.flags > SRC_FLAGS {
             return H_PARAMETER;
         }
-        if !self.is_source(source) {
+        if !self.is_source(config.lisn) {
             return H_P2;
         }
-        if priority == MASKED_OFF {
+        if config.priority == PRIORITY_MASKED {
             return H_SUCCESS;
         }
-        if priority > 6 {
+        if config.priority >= PRIORITY_RESERVED {
             return H_P4;
         }
-        if !self.is_target(target) {
+        if !self.is_target(config.target) {
             return H_P3;
         }
         H_SUCCESS
@@ -73,33 +70,47 @@ impl Tables {
 
     /// Configures an END: its counts begin anew, and so do its states.
     pub fn configure(&mut self, e: u32, config: &EndConfig)
-        requires end { e < 8 * self.old.board.limits.processors }
-        requires config { valid_config self.old.board config.now ≡ true }
-        ensures stands { (z : Start) (h : List Entry) (actor : ℕ) → StandsFor self.old z h → StandsFor self.new z (record { actor = actor; op = EndSet e config.now; outcome = Fine } ∷ h) }
+        requires end { e < ends_per_processor * self.old.board.limits.processors }
+        requires config { IsTrue (valid_config self.old.board config.now) }
+        ensures stands { (z : Start) (h : List Entry) (actor : ℕ) → StandsFor self.old z h
+            → StandsFor self.new z
+            (record { actor = actor; op = EndSet e config.now; outcome = Fine } ∷ h) }
         ensures board { self.new.board ≡ self.old.board }
-        ensures routed { self.new.routed ≡ self.old.routed }
+        ensures counts { (n : ℕ)
+            → All (HasCountsAtMost n) self.old.ends → All (HasCountsAtMost n) self.new.ends }
     {
         self.ends[e as usize].configure(config);
     }
 
-    /// The hypercall SET_SOURCE_CONFIG (0x3ac), by its arguments: flags (1 masks, 2 gives the payload), source,
-    /// target processor, priority (0xff masks and forgets the END), payload. The codes: -4 for another flag, -55
-    /// for a source that isn't there or has no valid assignment, -57 for a priority that is neither 0 to 6 nor
-    /// 0xff, -56 for a target that isn't a connected processor; the first of these that holds. QEMU's
-    /// hw/intc/spapr_xive.c, h_int_set_source_config.
+    /// The hypercall H_INT_SET_SOURCE_CONFIG (0x3ac; QEMU's hw/intc/spapr_xive.c,
+    /// h_int_set_source_config), by the registers R4 to R8: flags (1 masks, 2 sets the EISN), LISN,
+    /// target processor, priority (0xff masks, and forgets the END), and EISN, of which the low 31
+    /// bits count. Its code is the first of these that holds: H_PARAMETER (-4) for another flag, H_P2
+    /// (-55) for a LISN that isn't that of a source with a valid EAS, H_SUCCESS (0) for priority 0xff,
+    /// H_P4 (-57) for another priority above 6, H_P3 (-56) for a target that isn't a connected
+    /// processor, and H_SUCCESS.
     pub fn set_source_config(&mut self, args: &[u64; 5]) -> HReply
-        ensures reply { (z : Start) (h : List Entry) → StandsFor self.old z h → result ≡ hcall_reply z h args.now }
-        ensures stands { (z : Start) (h : List Entry) (actor : ℕ) → StandsFor self.old z h → StandsFor self.new z (record { actor = actor; op = Hcall number_of_call args.now; outcome = Reply result } ∷ h) }
+        ensures reply { (z : Start) (h : List Entry)
+            → StandsFor self.old z h → result ≡ hcall_reply z h args.now }
+        ensures stands { (z : Start) (h : List Entry) (actor : ℕ) → StandsFor self.old z h
+            → StandsFor self.new z
+            (record {
+              actor = actor;
+              op = Hcall H_INT_SET_SOURCE_CONFIG args.now;
+              outcome = Reply result;
+            } ∷ h) }
         ensures refused { is_success result.code ≡ false → self.new ≡ self.old }
         ensures bare { result.outs ≡ 0 }
         ensures board { self.new.board ≡ self.old.board }
-        ensures routed { self.new.routed ≡ self.old.routed }
+        ensures counts { (n : ℕ)
+            → All (HasCountsAtMost n) self.old.ends → All (HasCountsAtMost n) self.new.ends }
     {
-        let code = self.source_config_code(args);
+        let config = SetSourceConfig::from_args(args);
+        let code = self.source_config_code(&config);
         if !is_accepted(code) {
             return bare_reply(code);
         }
-        assign(&mut self.assignments[args[1] as usize], args);
+        assign(&mut self.eases[config.lisn as usize], &config);
         bare_reply(code)
     }
 }
@@ -123,27 +134,27 @@ fn bare_reply(code: i64) -> HReply
 }
 
 /// Assigns what accepted arguments say.
-fn assign(assignment: &mut Assignment, args: &[u64; 5])
-    requires accepted { (source_config args.now).priority ≢ 255 → 8 * (source_config args.now).target + (source_config args.now).priority < 2 ^ 32 }
-    ensures value { assignment.new ≡ assigned_by (source_config args.now) assignment.old }
+fn assign(eas: &mut Eas, config: &SetSourceConfig)
+    requires accepted { config.now.priority ≢ PRIORITY_MASKED
+        → ends_per_processor * config.now.target + config.now.priority < 2 ^ 32 }
+    ensures value { eas.new ≡ eas_by config.now eas.old }
 {
-    let [flags, _, target, priority, payload] = *args;
-    *assignment = if priority == MASKED_OFF {
-        Assignment {
+    *eas = if config.priority == PRIORITY_MASKED {
+        Eas {
             valid: true,
             masked: true,
             end: 0,
             eisn: 0,
         }
     } else {
-        Assignment {
+        Eas {
             valid: true,
-            masked: flags & 1 == 1,
-            end: (8 * target + priority) as u32,
-            eisn: if flags & 2 == 2 {
-                (payload % (1 << 31)) as u32
+            masked: config.flags & SRC_MASK == SRC_MASK,
+            end: (ENDS_PER_PROCESSOR as u64 * config.target + config.priority) as u32,
+            eisn: if config.flags & SRC_SET_EISN == SRC_SET_EISN {
+                (config.eisn % (1 << 31)) as u32
             } else {
-                assignment.eisn
+                eas.eisn
             },
         }
     };

@@ -1,27 +1,29 @@
 //! What is kept of an END.
 
 ghost use Rattle.std.specs.Prelude.{◌≡◌};
-ghost use Rattle.router.specs.Runs.{configured};
+ghost use Rattle.router.specs.Ends.{configured};
 
 use bitflags::Flags;
 use xv_model::operations::{EndConfig, EndFlags};
 
-/// An END: what it was told last, and what became of it since then.
+/// An END: its configuration, and what became of it since then. Its number is 8 times that of its
+/// processor, plus its priority (QEMU's hw/intc/spapr_xive.c, spapr_xive_cpu_to_end).
 #[derive(Clone, Copy)]
 pub struct EndRecord {
     pub config: EndConfig,
-    /// How many entries were written into its queue.
+    /// How many entries were written into its queue. It counts on where the queue wraps.
     pub written: u64,
-    /// How many entries were taken from it.
+    /// How many entries were taken from its queue.
     pub taken: u64,
-    /// The state that coalesces its notifications (ESn), a pair.
+    /// The state that coalesces its notifications (ESn), a pair as a source's.
     pub esn: u8,
-    /// The state that coalesces its escalations (ESe), a pair.
+    /// The state that coalesces its escalations (ESe), a pair as a source's.
     pub ese: u8,
 }
 
 impl EndRecord {
-    /// Tells an END what to do: its counts begin anew, and so do its states.
+    /// Configures an END: its counts begin anew, and so do its states, at 00 where it is valid and
+    /// at 01 where it isn't.
     pub(crate) fn configure(&mut self, config: &EndConfig)
         ensures { self.new ≡ configured config.now }
     {

@@ -1,11 +1,11 @@
-//! Where the notices of sources go: event assignments, ENDs with what was written into their queues, and the
-//! messages in flight. There is no memory yet: what a run writes is computed, and kept nowhere.
+//! Where the notices of sources go: EASes, ENDs with what was written into their queues, and the
+//! messages in flight. There is no memory yet: what a pass writes is computed, and kept nowhere.
 #![tactic(auto)]
 
 mod configuring;
 pub mod ends;
+mod passes;
 mod routing;
-mod runs;
 pub mod tables;
 #[cfg(test)]
 mod tests;

@@ -1,19 +1,23 @@
 //! Routes, configurations and messages.
 
-ghost use Rattle.std.specs.Prelude.{◌+◌};
-ghost use Rattle.xv_model.specs.Boards.{IsBoard, AreBelow};
+ghost use Rattle.std.specs.Prelude.{◌+◌, ◌<◌, ◌^◌, All, IsTrue};
+ghost use Rattle.xv_model.specs.board.Boards.{IsBoard, AreBelow};
+ghost use Rattle.router.specs.Ends.{HasRoom};
 
 use crate::ends::EndRecord;
-use crate::runs::notify;
+use crate::passes::notify;
 use crate::tables::Tables;
 use bitflags::Flags;
 use std::alloc::Global;
 use std::process::Abort;
 use xv_base::Limits;
+use xv_base::limits::{
+    ENDS_PER_PROCESSOR, MOST_ACTORS, MOST_PROCESSORS, MOST_RAM_MIB, MOST_SOURCES, MOST_THREADS,
+};
 use xv_model::board::{Board, Span, Spans};
 use xv_model::messages::Message;
 use xv_model::operations::{EndConfig, EndFlags, Op};
-use xv_model::outcomes::{EndRun, Outcome, Routed, Then};
+use xv_model::outcomes::{EndRun, Outcome, Routed, Then, Wrote};
 use xv_model::validity::valid;
 
 /// One number.
@@ -25,7 +29,8 @@ fn only(n: u32) -> Spans
     Spans { count: 1, spans }
 }
 
-/// Four sources, of which source 3 is unclaimed, and two processors, of which processor 1 isn't connected.
+/// Four sources, of which source 3 is unclaimed, and two processors, of which processor 1 isn't
+/// connected.
 fn board() -> Board
     ensures { IsBoard result }
 {
@@ -42,6 +47,39 @@ fn board() -> Board
         level: only(3),
         unclaimed: only(3),
         unconnected: only(1),
+    }
+}
+
+/// Sixteen ranges of one number each: this one, and every second one after it.
+fn every_second(first: u32) -> Spans
+    requires { first < 2 ^ 31 }
+    ensures { AreBelow result (first + 32) }
+{
+    let mut spans = [Span { first: 0, last: 0 }; 16];
+    for i in 0..16 {
+        let n = first + 2 * i;
+        spans[i as usize] = Span { first: n, last: n };
+    }
+    Spans { count: 16, spans }
+}
+
+/// The largest counts of everything.
+fn largest_board() -> Board
+    ensures { IsBoard result }
+{
+    Board {
+        limits: Limits {
+            sources: MOST_SOURCES,
+            processors: MOST_PROCESSORS,
+            threads: MOST_THREADS,
+            actors: MOST_ACTORS,
+        },
+        ram_mib: MOST_RAM_MIB,
+        two_pages: true,
+        store_eoi: true,
+        level: every_second(8160),
+        unclaimed: every_second(8160),
+        unconnected: every_second(32),
     }
 }
 
@@ -66,13 +104,26 @@ fn config(flags: u8) -> EndConfig {
 }
 
 fn configure(rt: &impl Abort, tables: &mut Tables, e: u32, config: &EndConfig) {
-    assert!(rt; valid(&tables.board, &Op::EndSet { e, config: *config }));
+    assert!(rt; valid(tables.board(), &Op::EndSet { e, config: *config }));
     tables.configure(e, config);
 }
 
+/// Whether each END has room, by what is shown of it.
+fn has_room(tables: &Tables) -> bool
+    ensures { IsTrue result → All HasRoom tables.now.ends }
+{
+    for e in 0..ENDS_PER_PROCESSOR * tables.board().limits.processors {
+        let end = tables.queue(e);
+        if end.written >= 1 << 63 || end.taken >= 1 << 63 {
+            return false;
+        }
+    }
+    true
+}
+
 fn route(rt: &impl Abort, tables: &mut Tables, s: u32, forwards: u64) -> Outcome {
-    assert!(rt; s < tables.board.limits.sources);
-    assert!(rt; tables.routed < 10_000);
+    assert!(rt; s < tables.board().limits.sources);
+    assert!(rt; has_room(tables));
     tables.route(s, forwards)
 }
 
@@ -87,7 +138,7 @@ fn routed(rt: &impl Abort, tables: &mut Tables, number: u64) -> Routed {
     }
 }
 
-/// What a run of END 6 wrote, and whether it presents.
+/// What a pass of END 6 wrote, and whether it presents.
 fn written(rt: &impl Abort, routed: Routed) -> (Option<(u64, u32)>, bool) {
     match routed {
         Routed::Run {
@@ -104,7 +155,7 @@ fn written(rt: &impl Abort, routed: Routed) -> (Option<(u64, u32)>, bool) {
 }
 
 fn count(rt: &impl Abort, tables: &Tables, e: u32) -> u64 {
-    assert!(rt; e < 8 * tables.board.limits.processors);
+    assert!(rt; e < ENDS_PER_PROCESSOR * tables.board().limits.processors);
     tables.queue(e).written
 }
 
@@ -156,6 +207,53 @@ fn outcomes_of_a_route(rt: HostRuntime) {
         )
     );
     assert!(rt; tables.message(2).is_none());
+}
+
+#[test]
+fn largest_counts(rt: HostRuntime) {
+    let tables = &mut match Tables::build(rt.alloc(), &largest_board()) {
+        Ok(tables) => tables,
+        Err(_) => panic!(rt),
+    };
+    let queue_of_16_mib = EndConfig {
+        vp: 63,
+        qaddr: 0x300_0000,
+        qshift: 24,
+        ..config(3)
+    };
+    configure(&rt, tables, 510, &queue_of_16_mib);
+    // Priority 7 is reserved, so END 510 is the last one that a source can have.
+    assert_eq!(rt; tables.set_source_config(&[2, 8191, 63, 7, 0]).code, -57);
+    configure(&rt, tables, 511, &config(1));
+    assert_eq!(rt;
+        tables
+            .set_source_config(&[2, 8191, 63, 6, 0x7fff_ffff])
+            .code,
+        0
+    );
+    assert_eq!(rt; tables.set_source_config(&[2, 8190, 63, 6, 0]).code, -55);
+    assert_eq!(rt; tables.set_source_config(&[2, 8191, 62, 6, 0]).code, -56);
+    assert!(rt;
+        matches!(
+            route(&rt, tables, 8191, 1),
+            Outcome::Routed {
+                k: 1,
+                routed: Routed::Run {
+                    run: EndRun::Ran {
+                        e: 510,
+                        wrote: Some(Wrote {
+                            addr: 0x300_0000,
+                            word: 0xffff_ffff
+                        }),
+                        then: Then::Present
+                    }
+                }
+            }
+        )
+    );
+    assert_eq!(rt; count(&rt, tables, 510), 1);
+    assert_eq!(rt; count(&rt, tables, 511), 0);
+    assert_eq!(rt; tables.flight(), 1);
 }
 
 #[test]
@@ -239,7 +337,7 @@ fn payload_without_its_flag(rt: HostRuntime) {
 
 #[test]
 fn ways_to_go_on(rt: HostRuntime) {
-    // flags, the state before, whether the run presents, whether it escalates, the state after
+    // flags, the state before, whether the pass presents, whether it escalates, the state after
     let cases = [
         (1, 0, true, false, 2),
         (1, 1, false, false, 1),
@@ -257,6 +355,7 @@ fn ways_to_go_on(rt: HostRuntime) {
             esn,
             ese: 0,
         };
+        assert!(rt; end.esn < 4);
         let then = notify(&mut end);
         assert_eq!(rt; matches!(then, Then::Present), presents, "at {flags}");
         assert_eq!(rt; matches!(then, Then::Escalate), escalates, "at {flags}");

@@ -1,21 +1,23 @@
-//! Runs of ENDs: what is written into a queue, how it goes on, and the message that it makes.
+//! Passes of ENDs: what is written into a queue, how it goes on, and the message that it makes.
 
-ghost use Rattle.std.specs.Prelude.{ℕ, ◌≡◌, ◌<◌, ◌≤◌, ◌+◌, ◌^◌, ◌∷◌, ◌++◌, [], vec_len, vec_capacity};
-ghost use Rattle.xv_model.specs.Routing.{next_by, write_by};
-ghost use Rattle.router.specs.Range.{IsNarrow};
-ghost use Rattle.router.specs.Runs.{end_in, enqueued, notified, after_run, run_by, made_for, routed_in, ends_after, messages_after};
+ghost use Rattle.std.specs.Prelude.{◌≡◌, ◌<◌, ◌≤◌, ◌+◌, ◌^◌, ◌∷◌, ◌++◌, [], vec_len, vec_capacity};
+ghost use Rattle.xv_model.specs.route.Routing.{next_by, write_by};
+ghost use Rattle.router.specs.Ends.{HasRoom, IsNarrow};
+ghost use Rattle.router.specs.Passes.{enqueued, notified, after_pass, pass_by, made_for};
 
 use crate::ends::EndRecord;
 use bitflags::Flags;
-use xv_model::assignments::Assignment;
+use esb_pq::trigger;
 use xv_model::messages::Message;
 use xv_model::operations::{EndConfig, EndFlags};
-use xv_model::outcomes::{EndRun, Routed, Then, Wrote};
+use xv_model::outcomes::{EndRun, Then, Wrote};
 
-/// Writes a payload into the queue of an END, where it has one, and says what was written.
+/// Writes a payload into the queue of an END, where it has one, and says what was written: the
+/// payload has 31 bits, and the generation is the word's top bit (QEMU's hw/intc/xive.c,
+/// xive_end_enqueue).
 pub(crate) fn enqueue(end: &mut EndRecord, payload: u32) -> Option<Wrote>
     requires queue { IsNarrow end.old.config }
-    requires written { end.old.written < 2 ^ 62 }
+    requires room { HasRoom end.old }
     requires payload { payload < 2 ^ 31 }
     ensures wrote { result ≡ write_by end.old.config end.old.written payload }
     ensures end { end.new ≡ enqueued end.old }
@@ -33,8 +35,9 @@ pub(crate) fn enqueue(end: &mut EndRecord, payload: u32) -> Option<Wrote>
     })
 }
 
-/// How a run of an END goes on. Without s and n it asks the END's state, which is triggered by that.
+/// How a pass of an END goes on. Without s and n it asks ESn, which is triggered by that.
 pub(crate) fn notify(end: &mut EndRecord) -> Then
+    requires esn { end.old.esn < 4 }
     ensures next { result ≡ next_by end.old.config end.old.esn }
     ensures end { end.new ≡ notified end.old }
 {
@@ -49,26 +52,24 @@ pub(crate) fn notify(end: &mut EndRecord) -> Then
     if flags.contains(EndFlags::NOTIFY_ALWAYS) {
         return Then::Present;
     }
-    let old = end.esn;
-    end.esn = match old {
-        0 => 2,
-        1 => 1,
-        _ => 3,
-    };
-    if old == 0 {
+    let cell = trigger(end.esn);
+    end.esn = cell.pq;
+    if cell.forwards {
         Then::Present
     } else {
         Then::Coalesced
     }
 }
 
-/// Runs an END with a payload: it is written first, and then the END notifies, escalates or does neither.
-fn run(end: &mut EndRecord, e: u32, payload: u32) -> EndRun
+/// A pass of an END with a payload: it is written first, and then the END notifies, escalates or
+/// does neither (QEMU's hw/intc/xive.c, xive_router_end_notify).
+pub(crate) fn pass(end: &mut EndRecord, e: u32, payload: u32) -> EndRun
     requires queue { IsNarrow end.old.config }
-    requires written { end.old.written < 2 ^ 62 }
+    requires esn { end.old.esn < 4 }
+    requires room { HasRoom end.old }
     requires payload { payload < 2 ^ 31 }
-    ensures run { result ≡ run_by end.old e payload }
-    ensures end { end.new ≡ after_run end.old }
+    ensures pass { result ≡ pass_by end.old e payload }
+    ensures end { end.new ≡ after_pass end.old }
 {
     if !end.config.flags.contains(EndFlags::VALID) {
         return EndRun::NoEnd { e };
@@ -91,14 +92,14 @@ fn put(messages: &mut Vec<Message>, message: Message)
     }
 }
 
-/// Sends the message that a run of an END makes for a source.
-fn send(messages: &mut Vec<Message>, run: &EndRun, config: &EndConfig, origin: u32)
+/// Sends the message that a pass of an END makes for a source.
+pub(crate) fn send(messages: &mut Vec<Message>, pass: &EndRun, config: &EndConfig, origin: u32)
     requires room { vec_len messages.old < vec_capacity messages.old }
-    ensures items { messages.new.items ≡ messages.old.items ++ made_for origin config.now run.now }
+    ensures items { messages.new.items ≡ messages.old.items ++ made_for origin config.now pass.now }
     ensures few { vec_len messages.new ≤ vec_len messages.old + 1 }
     ensures capacity { vec_capacity messages.old ≤ vec_capacity messages.new }
 {
-    match *run {
+    match *pass {
         EndRun::Ran {
             e,
             wrote: _,
@@ -131,34 +132,4 @@ fn send(messages: &mut Vec<Message>, run: &EndRun, config: &EndConfig, origin: u
         ),
         _ => {}
     }
-}
-
-/// Deals with a notice of a source with this assignment: a run of its END, where it has one.
-pub(crate) fn deal(
-    ends: &mut Vec<EndRecord>,
-    messages: &mut Vec<Message>,
-    s: u32,
-    assignment: &Assignment,
-) -> Routed
-    requires end { assignment.now.end < vec_len ends.old }
-    requires queues { (e : ℕ) → e < vec_len ends.old → IsNarrow (end_in ends.old.items e).config }
-    requires written { (e : ℕ) → e < vec_len ends.old → (end_in ends.old.items e).written < 2 ^ 62 }
-    requires payload { assignment.now.eisn < 2 ^ 31 }
-    requires room { vec_len messages.old < vec_capacity messages.old }
-    ensures routed { result ≡ routed_in ends.old.items assignment.now }
-    ensures ends { ends.new.items ≡ ends_after ends.old.items assignment.now }
-    ensures messages { messages.new.items ≡ messages_after s ends.old.items assignment.now messages.old.items }
-    ensures few { vec_len messages.new ≤ vec_len messages.old + 1 }
-    ensures capacity { vec_capacity messages.old ≤ vec_capacity messages.new }
-{
-    if !assignment.valid {
-        return Routed::NoSource;
-    }
-    if assignment.masked {
-        return Routed::Masked;
-    }
-    let end = &mut ends[assignment.end as usize];
-    let run = run(end, assignment.end, assignment.eisn);
-    send(messages, &run, &end.config, s);
-    Routed::Run { run }
 }

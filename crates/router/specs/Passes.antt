@@ -1,0 +1,48 @@
+-- What a pass makes of what is kept of an END.
+use Rattle.std.specs.Prelude.{ℕ, ◌+◌, if◌then◌else◌, List, []}
+use Rattle.xv_model.specs.declared.messages.Message.{Message}
+use Rattle.xv_model.specs.declared.operations.EndConfig.{EndConfig}
+use Rattle.xv_model.specs.declared.outcomes.EndRun.{EndRun}
+use Rattle.xv_model.specs.declared.outcomes.EndRun.TheVariants.{Ran, NoEnd}
+use Rattle.xv_model.specs.source.PqTable.{trigger_row}
+use Rattle.xv_model.specs.end.EventStates.{asks_state}
+use Rattle.xv_model.specs.end.Flags.{is_valid, enqueues}
+use Rattle.xv_model.specs.route.Routing.{next_by, write_by}
+use Rattle.xv_model.specs.route.Flight.{messages_by}
+use Rattle.router.specs.declared.ends.EndRecord.{EndRecord}
+
+-- an END after a pass wrote into its queue, where it has one
+abbrev pub enqueued : EndRecord → EndRecord
+enqueued r = record {
+  config = r.config;
+  written = if enqueues r.config then r.written + 1 else r.written;
+  taken = r.taken;
+  esn = r.esn;
+  ese = r.ese;
+}
+
+-- an END after a pass went on: where that asks its state, it is triggered
+abbrev pub notified : EndRecord → EndRecord
+notified r = record {
+  config = r.config;
+  written = r.written;
+  taken = r.taken;
+  esn = if asks_state r.config then (trigger_row r.esn).pair else r.esn;
+  ese = r.ese;
+}
+
+-- an END after a pass
+abbrev pub after_pass : EndRecord → EndRecord
+after_pass r = if is_valid r.config then notified (enqueued r) else r
+
+-- what a pass of END e answers
+abbrev pub pass_by : EndRecord → ℕ → ℕ → EndRun
+pass_by r e payload =
+    if is_valid r.config
+    then Ran e (write_by r.config r.written payload) (next_by r.config r.esn)
+    else NoEnd e
+
+-- the message that a pass of an END makes for a source
+abbrev pub made_for : ℕ → EndConfig → EndRun → List Message
+made_for s c (Ran e wrote next) = messages_by next e c s
+made_for s c (NoEnd e) = []
