@@ -1,0 +1,6 @@
+-- Lemmas.
+pub mod Burdens
+pub mod Notices
+pub mod Starting
+pub mod Stepping
+pub mod Words

@@ -1,0 +1,25 @@
+//! What a line may ask of a machine.
+
+use crate::machine::Machine;
+use xv_model::known::Known;
+
+impl Known for Machine {
+    ghost use Rattle.machine.specs.Machine.{StandsFor};
+
+    ghost knows = { StandsFor };
+
+    ghost sources = { λ m. m.tables.board.limits.sources };
+
+    fn out(&self, s: u32) -> u64 {
+        let source = self.source(s);
+        source.forwards.saturating_sub(source.routes)
+    }
+
+    fn initialised(&self, s: u32) -> bool {
+        self.tables.initialised(s)
+    }
+
+    fn pq(&self, s: u32) -> u8 {
+        self.words[s as usize].pq()
+    }
+}
