@@ -1,0 +1,70 @@
+-- The texts of operations.
+use Rattle.std.specs.Prelude.{ℕ, ◌==◌, Bool, true, false, if◌then◌else◌, List, [], ◌++◌, slice_index_or, codes, decimal}
+use Rattle.xv_model.specs.declared.operations.PqOp.{PqOp}
+use Rattle.xv_model.specs.declared.operations.PqOp.TheVariants.{Trigger, Eoi, Get, Set}
+use Rattle.xv_model.specs.declared.operations.Op.{Op}
+use Rattle.xv_model.specs.declared.operations.Op.TheVariants as op
+use Rattle.xv_model.specs.declared.operations.EndConfig.{EndConfig}
+use Rattle.xv_model.specs.board.Validity.{valid_pq}
+use Rattle.xv_model.specs.end.Flags.{has_bit}
+use Rattle.account.specs.text.Numbers.{pair_text, hex}
+
+-- an operation on the pair of source s
+abbrev pub pq_op_text : PqOp → ℕ → List ℕ
+pq_op_text Trigger s = codes "trigger " ++ decimal s
+pq_op_text Eoi s = codes "eoi " ++ decimal s
+pq_op_text Get s = codes "get " ++ decimal s
+pq_op_text (Set q) s = codes "set " ++ decimal s ++ codes " " ++ pair_text q
+pq_op_text _ s = []
+
+-- a flag's letter, where it is set
+abbrev pub flag_text : ℕ → ℕ → List ℕ → List ℕ
+flag_text flags bit letter = if has_bit flags bit then letter else []
+
+-- the letters of an END's flags, or a dash where there are none
+abbrev pub flags_text : ℕ → List ℕ
+flags_text flags =
+    if flags == 0 then codes "-"
+    else flag_text flags 1 (codes "v") ++ flag_text flags 2 (codes "q") ++ flag_text flags 4 (codes "n")
+    ++ flag_text flags 8 (codes "b") ++ flag_text flags 16 (codes "e") ++ flag_text flags 32 (codes "u")
+    ++ flag_text flags 64 (codes "s")
+
+-- the flags of a configuration, and what it notifies: the processor and the priority
+abbrev pub target_text : EndConfig → List ℕ
+target_text c = flags_text c.flags.0 ++ codes " " ++ decimal c.vp ++ codes " " ++ decimal c.priority
+
+-- its event queue: the address and the shift
+abbrev pub event_queue_text : EndConfig → List ℕ
+event_queue_text c = hex c.qaddr ++ codes " " ++ decimal c.qshift
+
+-- its escalation: the END and the payload
+abbrev pub escalation_text : EndConfig → List ℕ
+escalation_text c = decimal c.esc ++ codes " " ++ hex c.esc_eisn
+
+-- the configuration of an END
+abbrev pub config_text : EndConfig → List ℕ
+config_text c =
+    target_text c ++ codes " " ++ event_queue_text c ++ codes " " ++ escalation_text c
+
+-- the arguments of a hypercall
+abbrev pub arguments_text : List ℕ → List ℕ
+arguments_text args =
+    hex (slice_index_or args 0 0) ++ codes " " ++ hex (slice_index_or args 1 0) ++ codes " "
+    ++ hex (slice_index_or args 2 0) ++ codes " " ++ hex (slice_index_or args 3 0) ++ codes " "
+    ++ hex (slice_index_or args 4 0)
+
+-- an operation; one that isn't built has no text
+abbrev pub op_text : Op → List ℕ
+op_text (op.Pq s o) = pq_op_text o s
+op_text (op.Route s) = codes "route " ++ decimal s
+op_text (op.EndSet e c) = codes "endset " ++ decimal e ++ codes " " ++ config_text c
+op_text (op.Hcall number args) = codes "hcall " ++ hex number ++ codes " " ++ arguments_text args
+op_text _ = []
+
+-- whether an operation is built, whatever its board, and a pair in it is one
+abbrev pub is_built : Op → Bool
+is_built (op.Pq s o) = valid_pq o
+is_built (op.Route s) = true
+is_built (op.EndSet e c) = true
+is_built (op.Hcall number args) = true
+is_built _ = false

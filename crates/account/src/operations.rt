@@ -1,0 +1,169 @@
+//! The texts of operations.
+
+ghost use Rattle.std.specs.Prelude.{◌≡◌, ◌+◌, ◌≤◌, ◌++◌, IsTrue};
+ghost use Rattle.arrayvec.specs.ArrayVec.{array_vec_len};
+ghost use Rattle.xv_model.specs.board.Validity.{valid_pq};
+ghost use Rattle.account.specs.text.Operations.{pq_op_text, op_text, is_built, flag_text, flags_text, target_text, event_queue_text, escalation_text, config_text, arguments_text};
+
+use crate::numbers::{add, add_hex, add_pair, add_short_number};
+use arrayvec::ArrayVec;
+use bitflags::Flags;
+use xv_model::operations::{EndConfig, EndFlags, Op, PqOp};
+
+/// The room that the text of an operation wants, in bytes.
+pub const LONGEST_OP: usize = 119;
+
+/// The most letters of the flags of an END.
+pub const MOST_FLAGS: usize = 7;
+
+fn add_pq_op<const CAP: usize>(text: &mut ArrayVec<u8, CAP>, op: PqOp, s: u32)
+    requires room { array_vec_len text.old + 21 ≤ CAP }
+    requires op { IsTrue (valid_pq op) }
+    ensures items { text.new.items ≡ text.old.items ++ pq_op_text op s }
+    ensures len { array_vec_len text.new ≤ array_vec_len text.old + 21 }
+{
+    match op {
+        PqOp::Trigger => {
+            add(text, b"trigger ");
+            add_short_number(text, s);
+        }
+        PqOp::Eoi => {
+            add(text, b"eoi ");
+            add_short_number(text, s);
+        }
+        PqOp::Get => {
+            add(text, b"get ");
+            add_short_number(text, s);
+        }
+        PqOp::Set { pq } => {
+            add(text, b"set ");
+            add_short_number(text, s);
+            text.push(b' ');
+            add_pair(text, pq);
+        }
+        _ => unreachable!(),
+    }
+}
+
+/// The letter of a flag, where it is set.
+fn add_flag<const CAP: usize>(
+    text: &mut ArrayVec<u8, CAP>,
+    flags: EndFlags,
+    flag: EndFlags,
+    letter: &[u8; 1],
+)
+    requires { array_vec_len text.old + 1 ≤ CAP }
+    ensures items { text.new.items ≡ text.old.items ++ flag_text flags.0 flag.0 letter.now }
+    ensures len { array_vec_len text.new ≤ array_vec_len text.old + 1 }
+{
+    if flags.contains(flag) {
+        add(text, letter);
+    }
+}
+
+/// Appends the letters of the flags of an END, or a dash where there are none.
+pub fn add_flags<const CAP: usize>(text: &mut ArrayVec<u8, CAP>, flags: EndFlags)
+    requires { array_vec_len text.old + MOST_FLAGS ≤ CAP }
+    ensures items { text.new.items ≡ text.old.items ++ flags_text flags.0 }
+    ensures len { array_vec_len text.new ≤ array_vec_len text.old + MOST_FLAGS }
+{
+    if flags.bits() == 0 {
+        return text.push(b'-');
+    }
+    add_flag(text, flags, EndFlags::VALID, b"v");
+    add_flag(text, flags, EndFlags::ENQUEUE, b"q");
+    add_flag(text, flags, EndFlags::NOTIFY_ALWAYS, b"n");
+    add_flag(text, flags, EndFlags::BACKLOG, b"b");
+    add_flag(text, flags, EndFlags::ESCALATE, b"e");
+    add_flag(text, flags, EndFlags::ESCALATE_ALWAYS, b"u");
+    add_flag(text, flags, EndFlags::SILENT, b"s");
+}
+
+fn add_target<const CAP: usize>(text: &mut ArrayVec<u8, CAP>, config: &EndConfig)
+    requires { array_vec_len text.old + 29 ≤ CAP }
+    ensures items { text.new.items ≡ text.old.items ++ target_text config.now }
+    ensures len { array_vec_len text.new ≤ array_vec_len text.old + 29 }
+{
+    add_flags(text, config.flags);
+    text.push(b' ');
+    add_short_number(text, config.vp);
+    text.push(b' ');
+    add_short_number(text, config.priority as u32);
+}
+
+fn add_event_queue<const CAP: usize>(text: &mut ArrayVec<u8, CAP>, config: &EndConfig)
+    requires { array_vec_len text.old + 29 ≤ CAP }
+    ensures items { text.new.items ≡ text.old.items ++ event_queue_text config.now }
+    ensures len { array_vec_len text.new ≤ array_vec_len text.old + 29 }
+{
+    add_hex(text, config.qaddr);
+    text.push(b' ');
+    add_short_number(text, config.qshift);
+}
+
+fn add_escalation<const CAP: usize>(text: &mut ArrayVec<u8, CAP>, config: &EndConfig)
+    requires { array_vec_len text.old + 29 ≤ CAP }
+    ensures items { text.new.items ≡ text.old.items ++ escalation_text config.now }
+    ensures len { array_vec_len text.new ≤ array_vec_len text.old + 29 }
+{
+    add_short_number(text, config.esc);
+    text.push(b' ');
+    add_hex(text, config.esc_eisn as u64);
+}
+
+fn add_config<const CAP: usize>(text: &mut ArrayVec<u8, CAP>, config: &EndConfig)
+    requires { array_vec_len text.old + 89 ≤ CAP }
+    ensures items { text.new.items ≡ text.old.items ++ config_text config.now }
+    ensures len { array_vec_len text.new ≤ array_vec_len text.old + 89 }
+{
+    add_target(text, config);
+    text.push(b' ');
+    add_event_queue(text, config);
+    text.push(b' ');
+    add_escalation(text, config);
+}
+
+fn add_arguments<const CAP: usize>(text: &mut ArrayVec<u8, CAP>, args: &[u64; 5])
+    requires { array_vec_len text.old + 94 ≤ CAP }
+    ensures items { text.new.items ≡ text.old.items ++ arguments_text args.now }
+    ensures len { array_vec_len text.new ≤ array_vec_len text.old + 94 }
+{
+    add_hex(text, args[0]);
+    text.push(b' ');
+    add_hex(text, args[1]);
+    text.push(b' ');
+    add_hex(text, args[2]);
+    text.push(b' ');
+    add_hex(text, args[3]);
+    text.push(b' ');
+    add_hex(text, args[4]);
+}
+
+/// Appends the text of an operation that is built.
+pub fn add_op<const CAP: usize>(text: &mut ArrayVec<u8, CAP>, op: &Op)
+    requires room { array_vec_len text.old + LONGEST_OP ≤ CAP }
+    requires op { IsTrue (is_built op.now) }
+    ensures items { text.new.items ≡ text.old.items ++ op_text op.now }
+    ensures len { array_vec_len text.new ≤ array_vec_len text.old + LONGEST_OP }
+{
+    match op {
+        Op::Pq { s, op } => add_pq_op(text, *op, *s),
+        Op::Route { s } => {
+            add(text, b"route ");
+            add_short_number(text, *s);
+        }
+        Op::EndSet { e, config } => {
+            add(text, b"endset ");
+            add_short_number(text, *e);
+            text.push(b' ');
+            add_config(text, config);
+        }
+        Op::Hcall { number, args } => {
+            add(text, b"hcall ");
+            add_hex(text, *number);
+            text.push(b' ');
+            add_arguments(text, args);
+        }
+        _ => unreachable!(),
+    }
+}

@@ -1,0 +1,125 @@
+//! The texts of outcomes.
+
+ghost use Rattle.std.specs.Prelude.{◌≡◌, ◌+◌, ◌<◌, ◌≤◌, ◌++◌};
+ghost use Rattle.arrayvec.specs.ArrayVec.{array_vec_len};
+ghost use Rattle.account.specs.text.Outcomes.{outcome_text, wrote_text, next_text, pass_text, routed_text, reply_text};
+ghost use Rattle.xv_model.specs.account.Outcomes.{IsWellFormed};
+
+use crate::numbers::{add, add_hex, add_number, add_pair, add_short_number, add_signed};
+use arrayvec::ArrayVec;
+use xv_model::outcomes::{EndRun, HReply, Outcome, Routed, Then, Wrote};
+
+/// The room that the text of an outcome wants, in bytes.
+pub const LONGEST_OUTCOME: usize = 89;
+
+fn add_pairs<const CAP: usize>(text: &mut ArrayVec<u8, CAP>, old: u8, new: u8, forward: u64)
+    requires room { array_vec_len text.old + 34 ≤ CAP }
+    requires old { old < 4 }
+    requires new { new < 4 }
+    ensures items { text.new.items ≡ text.old.items ++ outcome_text (Outcome.Pq old new forward) }
+    ensures len { array_vec_len text.new ≤ array_vec_len text.old + 34 }
+{
+    add_pair(text, old);
+    text.push(b' ');
+    add_pair(text, new);
+    if forward != 0 {
+        add(text, b" forward ");
+        add_number(text, forward);
+    }
+}
+
+fn add_wrote<const CAP: usize>(text: &mut ArrayVec<u8, CAP>, wrote: &Option<Wrote>)
+    requires { array_vec_len text.old + 43 ≤ CAP }
+    ensures items { text.new.items ≡ text.old.items ++ wrote_text wrote.now }
+    ensures len { array_vec_len text.new ≤ array_vec_len text.old + 43 }
+{
+    match wrote {
+        Some(wrote) => {
+            add(text, b"wrote ");
+            add_hex(text, wrote.addr);
+            text.push(b' ');
+            add_hex(text, wrote.word as u64);
+        }
+        None => add(text, b"unwritten"),
+    }
+}
+
+fn add_next<const CAP: usize>(text: &mut ArrayVec<u8, CAP>, next: Then)
+    requires { array_vec_len text.old + 10 ≤ CAP }
+    ensures items { text.new.items ≡ text.old.items ++ next_text next }
+    ensures len { array_vec_len text.new ≤ array_vec_len text.old + 10 }
+{
+    match next {
+        Then::Coalesced => add(text, b" coalesced"),
+        Then::Silent => add(text, b" silent"),
+        Then::Present => add(text, b" present"),
+        Then::Escalate => add(text, b" escalate"),
+    }
+}
+
+fn add_pass<const CAP: usize>(text: &mut ArrayVec<u8, CAP>, pass: &EndRun)
+    requires { array_vec_len text.old + 68 ≤ CAP }
+    ensures items { text.new.items ≡ text.old.items ++ pass_text pass.now }
+    ensures len { array_vec_len text.new ≤ array_vec_len text.old + 68 }
+{
+    match pass {
+        EndRun::NoEnd { e } => {
+            add(text, b"end ");
+            add_short_number(text, *e);
+            add(text, b" no-end");
+        }
+        EndRun::Ran { e, wrote, then } => {
+            add(text, b"end ");
+            add_short_number(text, *e);
+            text.push(b' ');
+            add_wrote(text, wrote);
+            add_next(text, *then);
+        }
+    }
+}
+
+fn add_routed<const CAP: usize>(text: &mut ArrayVec<u8, CAP>, routed: &Routed)
+    requires { array_vec_len text.old + 68 ≤ CAP }
+    ensures items { text.new.items ≡ text.old.items ++ routed_text routed.now }
+    ensures len { array_vec_len text.new ≤ array_vec_len text.old + 68 }
+{
+    match routed {
+        Routed::NoSource => add(text, b"no-source"),
+        Routed::Masked => add(text, b"masked"),
+        Routed::Run { run } => add_pass(text, run),
+    }
+}
+
+/// The text of a reply without outputs.
+fn add_reply<const CAP: usize>(text: &mut ArrayVec<u8, CAP>, reply: &HReply)
+    requires room { array_vec_len text.old + 26 ≤ CAP }
+    requires bare { reply.now.outs ≡ 0 }
+    ensures items { text.new.items ≡ text.old.items ++ reply_text reply.now }
+    ensures len { array_vec_len text.new ≤ array_vec_len text.old + 26 }
+{
+    add(text, b"code ");
+    add_signed(text, reply.code);
+}
+
+/// Appends the text of an outcome; one of no operation that is built has none.
+pub fn add_outcome<const CAP: usize>(text: &mut ArrayVec<u8, CAP>, outcome: &Outcome)
+    requires room { array_vec_len text.old + LONGEST_OUTCOME ≤ CAP }
+    requires outcome { IsWellFormed outcome.now }
+    ensures items { text.new.items ≡ text.old.items ++ outcome_text outcome.now }
+    ensures len { array_vec_len text.new ≤ array_vec_len text.old + LONGEST_OUTCOME }
+{
+    match outcome {
+        Outcome::Pq { old, new, forward } => add_pairs(text, *old, *new, *forward),
+        Outcome::Spent => add(text, b"spent"),
+        Outcome::NoNotice => add(text, b"no-notice"),
+        Outcome::BusFull => add(text, b"bus-full"),
+        Outcome::Routed { k, routed } => {
+            add_number(text, *k);
+            text.push(b' ');
+            add_routed(text, routed);
+        }
+        Outcome::Fine => add(text, b"ok"),
+        Outcome::Reply { reply } => add_reply(text, reply),
+        _ => {}
+    }
+}
