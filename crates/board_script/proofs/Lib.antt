@@ -1,2 +1,6 @@
+pub mod Accounts
+pub mod Fitting
+pub mod WorkLines
+pub mod LongLines
 pub mod Reading
-mod Staying
+pub mod Staying

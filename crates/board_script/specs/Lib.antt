@@ -1,12 +1,15 @@
 -- Definitions of what a script says. Bytes and lines are in their own order; the work lines of a script, as the
 -- entries of an account, the newest first.
+pub mod Faults
 pub mod Words
 pub mod Numbers
 pub mod Flags
-pub mod Working
+pub mod Work
 pub mod Sources
 pub mod Configuring
+pub mod Working
+pub mod Header
 pub mod Lines
-pub mod Stages
-pub mod Parsing
+pub mod Stage
+pub mod Parser
 pub mod Script

@@ -1,6 +1,9 @@
 -- The numbers and pairs of a line.
 use Rattle.std.specs.Prelude.{ℕ, ◌==◌, ◌+◌, ◌-◌, ◌*◌, ◌^◌, ◌&&◌, ◌||◌, nat_lt, nat_le, if◌then◌else◌, List, [], ◌∷◌, Option, Some, None, length, codes}
-use Rattle.board_script.specs.Words.{is_empty, is_word}
+use Rattle.std.specs.declared.result.Result.{Result}
+use Rattle.xv_base.specs.Limits.{ends_per_processor}
+use Rattle.board_script.specs.declared.faults.Misread.{Misread}
+use Rattle.board_script.specs.Words.{word_of, is_empty, is_word, value_at}
 
 -- the number that more decimal digits make of a number, where each is one and it stays below 2 ^ 64
 abbrev pub decimal_from : ℕ → List ℕ → Option ℕ
@@ -45,10 +48,6 @@ abbrev pub in_bounds : Option ℕ → ℕ → ℕ → Option ℕ
 in_bounds (Some n) low high = if nat_le low n && nat_lt n high then Some n else None
 in_bounds None low high = None
 
--- the number that a word is, from low on and below high
-abbrev pub bounded_of : List ℕ → ℕ → ℕ → Option ℕ
-bounded_of word low high = in_bounds (number_of word) low high
-
 -- the pair that a word is: its P, and then its Q
 abbrev pub pair_of : List ℕ → Option ℕ
 pair_of word =
@@ -57,15 +56,23 @@ pair_of word =
     else (if is_word (codes "10") word then Some 2
     else (if is_word (codes "11") word then Some 3 else None)))
 
--- a number below 2 ^ 32
-abbrev pub word32_of : List ℕ → Option ℕ
-word32_of word = in_bounds (number_of word) 0 (2 ^ 32)
+-- reads a number
+abbrev pub number_at : List ℕ → Result ℕ Misread
+number_at rest = value_at (number_of (word_of rest)) rest
 
--- the number of an END of a board with so many processors, which have eight each
-abbrev pub end_of : List ℕ → ℕ → Option ℕ
-end_of word processors = in_bounds (word32_of word) 0 (8 * processors)
+-- reads a number from low on and below high
+abbrev pub bounded_at : ℕ → ℕ → List ℕ → Result ℕ Misread
+bounded_at low high rest = value_at (in_bounds (number_of (word_of rest)) low high) rest
 
--- goes on with a number, where there is one
-abbrev pub with_number : {A : Type 0} → Option ℕ → (ℕ → Option A) → Option A
-with_number (Some n) next = next n
-with_number None next = None
+-- reads a number below 2 ^ 32
+abbrev pub word32_at : List ℕ → Result ℕ Misread
+word32_at rest = bounded_at 0 (2 ^ 32) rest
+
+-- reads the number of an END of a board with so many processors
+abbrev pub end_number_at : ℕ → List ℕ → Result ℕ Misread
+end_number_at processors rest =
+    value_at (in_bounds (in_bounds (number_of (word_of rest)) 0 (2 ^ 32)) 0 (ends_per_processor * processors)) rest
+
+-- reads a pair
+abbrev pub pair_at : List ℕ → Result ℕ Misread
+pair_at rest = value_at (pair_of (word_of rest)) rest

@@ -1,11 +1,13 @@
--- The words of a line.
-use Rattle.std.specs.Prelude.{ℕ, ◌==◌, ◌&&◌, suc, nat_le, nat_eq, Bool, true, false, if◌then◌else◌, List, [], ◌∷◌, take, drop}
+-- The words of a line. A line is read from the left: its rest is what is not read yet, from the next word on.
+use Rattle.std.specs.Prelude.{ℕ, ◌==◌, ◌&&◌, suc, nat_le, nat_eq, Bool, true, false, if◌then◌else◌, List, [], ◌∷◌, length, take, drop, Option, Some, None, Ok, Err}
+use Rattle.std.specs.declared.result.Result.{Result}
 use Rattle.std.specs.Cmp.Lexicographic.{pointwise}
+use Rattle.board_script.specs.declared.faults.Misread.{Misread}
 
--- whether each byte is from 0x20 to 0x7e
-abbrev pub are_printable : List ℕ → Bool
-are_printable [] = true
-are_printable (b ∷ bs) = if nat_le 32 b && nat_le b 126 then are_printable bs else false
+-- what stands from the first byte on that isn't from 0x20 to 0x7e
+abbrev pub from_unprintable : List ℕ → List ℕ
+from_unprintable [] = []
+from_unprintable (b ∷ bs) = if nat_le 32 b && nat_le b 126 then from_unprintable bs else b ∷ bs
 
 -- a line without the spaces at its front
 abbrev pub skip : List ℕ → List ℕ
@@ -17,23 +19,55 @@ abbrev pub word_len : List ℕ → ℕ
 word_len [] = 0
 word_len (b ∷ bs) = if b == 32 then 0 else suc (word_len bs)
 
--- the first word, empty where there is none
+-- the next word, empty where there is none
 abbrev pub word_of : List ℕ → List ℕ
-word_of line = take (word_len (skip line)) (skip line)
+word_of rest = take (word_len rest) rest
 
--- what stands after the first word
+-- the rest after the next word
 abbrev pub rest_of : List ℕ → List ℕ
-rest_of line = drop (word_len (skip line)) (skip line)
+rest_of rest = skip (drop (word_len rest) rest)
 
 -- whether there are no bytes
 abbrev pub is_empty : List ℕ → Bool
 is_empty [] = true
 is_empty (b ∷ bs) = false
 
--- whether no word stands in a line
-abbrev pub is_blank : List ℕ → Bool
-is_blank line = is_empty (skip line)
+-- whether no word is left, or a comment: it begins with #
+abbrev pub says_nothing : List ℕ → Bool
+says_nothing [] = true
+says_nothing (b ∷ bs) = b == 35
 
 -- whether a word is this one
 abbrev pub is_word : List ℕ → List ℕ → Bool
 is_word name word = pointwise nat_eq word name
+
+-- refused at the next word of the rest, or where one is missing
+abbrev pub misread_at : List ℕ → Misread
+misread_at rest = record { left = length rest }
+
+-- what is read of the next word, where it is something
+abbrev pub value_at : {A : Type 0} → Option A → List ℕ → Result A Misread
+value_at (Some x) rest = Ok x
+value_at None rest = Err (misread_at rest)
+
+-- the next word is this one
+abbrev pub name_at : List ℕ → List ℕ → Result (Unit {0}) Misread
+name_at name rest = if is_word name (word_of rest) then Ok tt else Err (misread_at rest)
+
+-- there is no further word
+abbrev pub done_at : List ℕ → Result (Unit {0}) Misread
+done_at rest = if is_empty rest then Ok tt else Err (misread_at rest)
+
+-- goes on with what was read
+abbrev pub then_read : {A B : Type 0} → Result A Misread → (A → Result B Misread) → Result B Misread
+then_read (Ok x) next = next x
+then_read (Err m) next = Err m
+
+-- reads the next word, and goes on with it and with the rest
+abbrev pub then_at : {A B : Type 0} →
+    (List ℕ → Result A Misread) → List ℕ → (A → List ℕ → Result B Misread) → Result B Misread
+then_at read rest next = then_read (read rest) (λ x. next x (rest_of rest))
+
+-- this is said, where there is no further word
+abbrev pub at_end : {A : Type 0} → List ℕ → A → Result A Misread
+at_end rest it = then_read (done_at rest) (λ u. Ok it)

@@ -3,7 +3,8 @@
 ghost use Rattle.std.specs.Prelude.{◌≡◌, ◌≤◌, IfSome};
 ghost use Rattle.board_script.specs.Flags.{bit_of, of_bits, flags_of};
 
-use crate::words::same;
+use crate::faults::Misread;
+use crate::words::{Words, same};
 use bitflags::Flags;
 use xv_model::operations::EndFlags;
 
@@ -29,7 +30,7 @@ pub fn with_bits(bits: u8) -> EndFlags
 }
 
 /// The flags that a word is: `-` is none; else letters, each at most once and in the order v, q, n, b.
-pub fn flags(word: &[u8]) -> Option<u8>
+fn flags(word: &[u8]) -> Option<u8>
     ensures { result ≡ flags_of word.now }
 {
     if same(word, b"-") {
@@ -51,4 +52,18 @@ pub fn flags(word: &[u8]) -> Option<u8>
         }
     }
     Some(value)
+}
+
+impl<'a> Words<'a> {
+    ghost use Rattle.board_script.specs.Words.{rest_of};
+    ghost use Rattle.board_script.specs.Flags.{flags_at};
+
+    /// Reads flags.
+    pub fn flags(&mut self) -> Result<u8, Misread>
+        ensures value { result ≡ flags_at self.old }
+        ensures rest { self.new ≡ rest_of self.old }
+    {
+        let here = self.here();
+        flags(self.next()).ok_or(here)
+    }
 }

@@ -1,11 +1,11 @@
 //! Board scripts: what each line of one says. Nothing here runs a board.
 #![tactic(auto)]
 
-mod advancing;
 mod configuring;
 pub mod faults;
 mod flags;
 mod header;
+pub mod laws;
 pub mod lines;
 mod numbers;
 pub mod parser;

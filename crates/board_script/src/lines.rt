@@ -1,6 +1,15 @@
 //! What the lines of a script say.
 
+ghost use Rattle.std.specs.Prelude.{◌≡◌};
+ghost use Rattle.board_script.specs.Lines.{check_of, said_of, line_by};
+
+use crate::faults::Misread;
+use crate::header::header_line;
+use crate::stage::Stage;
+use crate::words::{Words, unprintable};
 use crate::work::Work;
+use crate::working::work_line;
+use xv_base::limits::LONGEST_LINE;
 use xv_model::board::{Board, Span};
 
 /// What a line says to who runs the script.
@@ -20,14 +29,70 @@ pub enum Line {
     Work { actor: u32, work: Work },
 }
 
-/// What the words of a line are; which line of the header is next says what a number is of.
+/// What a line says, without the board: it is small, and so is read at little cost.
 #[derive(Clone, Copy)]
 pub enum Said {
+    /// The line is blank or a comment, or comes after the end.
     Nothing,
+    /// A number of the header; which line of the header was next says of what.
     Number { n: u32 },
+    /// How many pages a source has, and whether a store is an EOI.
     Pages { two_pages: bool, store_eoi: bool },
+    /// Sources that start without a valid EAS.
     Unclaimed { span: Span },
+    /// The header is whole.
     Go,
+    /// The script is over.
     End,
+    /// An actor has this work.
     Work { actor: u32, work: Work },
+}
+
+/// Refuses a line that is long, or has a byte that may not stand in it.
+fn check(line: &[u8]) -> Result<(), Misread>
+    ensures { result ≡ check_of line.now }
+{
+    if line.len() > LONGEST_LINE {
+        return Err(Misread {
+            left: line.len() - LONGEST_LINE,
+        });
+    }
+    let bad = unprintable(line);
+    if bad.is_empty() {
+        Ok(())
+    } else {
+        Err(Misread { left: bad.len() })
+    }
+}
+
+/// What a line says at a stage.
+pub(crate) fn read(stage: Stage, board: &Board, line: &[u8]) -> Result<Said, Misread>
+    ensures { result ≡ said_of stage board.now line.now }
+{
+    if let Stage::Ended = stage {
+        return Ok(Said::Nothing);
+    }
+    check(line)?;
+    let mut words = Words::new(line);
+    if words.says_nothing() {
+        return Ok(Said::Nothing);
+    }
+    match stage {
+        Stage::Header { turn } => header_line(turn, board, &mut words),
+        Stage::Work => work_line(board, &mut words),
+        Stage::Ended => Ok(Said::Nothing),
+    }
+}
+
+/// What a line says to who runs the script, on the board that is read so far.
+pub(crate) fn whole_line(board: &Board, said: Said) -> Line
+    ensures { result ≡ line_by board.now said }
+{
+    match said {
+        Said::Nothing => Line::Nothing,
+        Said::Go => Line::Go { board: *board },
+        Said::End => Line::End,
+        Said::Work { actor, work } => Line::Work { actor, work },
+        _ => Line::Header,
+    }
 }

@@ -1,9 +1,11 @@
 //! The numbers and pairs of a line.
 
-ghost use Rattle.std.specs.Prelude.{◌≡◌, ◌<◌, ◌≤◌, IfSome};
-ghost use Rattle.board_script.specs.Numbers.{decimal_of, hexadecimal_of, digit_of, number_of, bounded_of, word32_of, end_of, pair_of};
+ghost use Rattle.std.specs.Prelude.{◌≡◌, ◌<◌, ◌≤◌, IfSome, IfOk};
+ghost use Rattle.board_script.specs.Numbers.{decimal_of, hexadecimal_of, digit_of, number_of, pair_of};
 
-use crate::words::same;
+use crate::faults::Misread;
+use crate::words::{Words, same};
+use xv_base::limits::ENDS_PER_PROCESSOR;
 
 /// The number of 1 to 20 decimal digits.
 fn decimal(word: &[u8]) -> Option<u64>
@@ -66,7 +68,7 @@ fn hexadecimal(word: &[u8]) -> Option<u64>
 }
 
 /// The number that a word is.
-pub fn number(word: &[u8]) -> Option<u64>
+fn number(word: &[u8]) -> Option<u64>
     ensures { result ≡ number_of word.now }
 {
     match word {
@@ -81,53 +83,9 @@ pub fn number(word: &[u8]) -> Option<u64>
     }
 }
 
-/// The number that a word is, from `low` on and below `high`.
-pub fn bounded(word: &[u8], low: u32, high: u32) -> Option<u32>
-    ensures value { result ≡ bounded_of word.now low high }
-    ensures bounds { IfSome result (λ n. (low ≤ n) × (n < high)) }
-{
-    match number(word) {
-        Some(n) => {
-            if (low as u64) <= n && n < (high as u64) {
-                Some(n as u32)
-            } else {
-                None
-            }
-        }
-        None => None,
-    }
-}
-
-/// The number below 2 ^ 32 that a word is.
-pub fn word32(word: &[u8]) -> Option<u32>
-    ensures { result ≡ word32_of word.now }
-{
-    match number(word) {
-        Some(n) => { if n < 1 << 32 { Some(n as u32) } else { None } }
-        None => None,
-    }
-}
-
-/// The number of an END that a word is, on a board with so many processors, which have eight each.
-pub fn end_number(word: &[u8], processors: u32) -> Option<u32>
-    ensures { result ≡ end_of word.now processors }
-{
-    match word32(word) {
-        Some(e) => {
-            if (e as u64) < 8 * processors as u64 {
-                Some(e)
-            } else {
-                None
-            }
-        }
-        None => None,
-    }
-}
-
 /// The pair that a word is: its P, and then its Q.
-pub fn pair(word: &[u8]) -> Option<u8>
-    ensures value { result ≡ pair_of word.now }
-    ensures below { IfSome result (λ n. n < 4) }
+fn pair(word: &[u8]) -> Option<u8>
+    ensures { result ≡ pair_of word.now }
 {
     if same(word, b"00") {
         return Some(0);
@@ -142,4 +100,76 @@ pub fn pair(word: &[u8]) -> Option<u8>
         return Some(3);
     }
     None
+}
+
+impl<'a> Words<'a> {
+    ghost use Rattle.board_script.specs.Words.{rest_of};
+    ghost use Rattle.board_script.specs.Numbers.{number_at, bounded_at, word32_at, end_number_at, pair_at};
+
+    /// Reads a number.
+    pub fn number(&mut self) -> Result<u64, Misread>
+        ensures value { result ≡ number_at self.old }
+        ensures rest { self.new ≡ rest_of self.old }
+    {
+        let here = self.here();
+        number(self.next()).ok_or(here)
+    }
+
+    /// Reads a number from `low` on and below `high`.
+    pub fn bounded(&mut self, low: u32, high: u32) -> Result<u32, Misread>
+        ensures value { result ≡ bounded_at low high self.old }
+        ensures bounds { IfOk result (λ n. (low ≤ n) × (n < high)) }
+        ensures rest { self.new ≡ rest_of self.old }
+    {
+        let here = self.here();
+        match number(self.next()) {
+            Some(n) => {
+                if low as u64 <= n && n < high as u64 {
+                    Ok(n as u32)
+                } else {
+                    Err(here)
+                }
+            }
+            None => Err(here),
+        }
+    }
+
+    /// Reads a number below 2 ^ 32.
+    pub fn word32(&mut self) -> Result<u32, Misread>
+        ensures value { result ≡ word32_at self.old }
+        ensures rest { self.new ≡ rest_of self.old }
+    {
+        let here = self.here();
+        match number(self.next()) {
+            Some(n) => { if n < 1 << 32 { Ok(n as u32) } else { Err(here) } }
+            None => Err(here),
+        }
+    }
+
+    /// Reads the number of an END of a board with so many processors.
+    pub fn end_number(&mut self, processors: u32) -> Result<u32, Misread>
+        ensures value { result ≡ end_number_at processors self.old }
+        ensures rest { self.new ≡ rest_of self.old }
+    {
+        let here = self.here();
+        match number(self.next()) {
+            Some(n) => {
+                if n < 1 << 32 && n < ENDS_PER_PROCESSOR as u64 * processors as u64 {
+                    Ok(n as u32)
+                } else {
+                    Err(here)
+                }
+            }
+            None => Err(here),
+        }
+    }
+
+    /// Reads a pair.
+    pub fn pair(&mut self) -> Result<u8, Misread>
+        ensures value { result ≡ pair_at self.old }
+        ensures rest { self.new ≡ rest_of self.old }
+    {
+        let here = self.here();
+        pair(self.next()).ok_or(here)
+    }
 }

@@ -1,39 +1,43 @@
 //! The parser of a script, which is fed a line at a time.
 
 ghost use Rattle.std.specs.Prelude.{◌≡◌, false, IfOk};
-ghost use Rattle.board_script.specs.Stages.{first_board};
-ghost use Rattle.board_script.specs.Parsing.{not_built};
+ghost use Rattle.xv_model.specs.board.Boards.{IsBoard, IsPlain};
+ghost use Rattle.board_script.specs.Stage.{first_board};
+ghost use Rattle.board_script.specs.Parser.{not_built};
 
-use crate::advancing::{advance, read_line};
 use crate::faults::{Cause, ScriptFault};
-use crate::lines::{Line, Said};
-use crate::stage::{Stage, Turn};
+use crate::lines::{Line, Said, read, whole_line};
+use crate::stage::{Stage, Turn, advance};
 use std::marker::Model;
 use xv_base::Limits;
+use xv_base::limits::MOST_RANGES;
 use xv_model::board::{Board, Span, Spans};
 
-/// A parser. A contract sees how far it has read, how many lines it was fed, and the fault that stands.
+/// A parser. A contract sees how far it has read, the board so far, how many lines it was fed, and the fault
+/// that is sticky.
 #[derive(Drop)]
 pub struct Parser {
     stage: Stage,
+    board: Board,
     lines: u32,
     fault: Option<ScriptFault>,
 }
 
 impl Model for Parser {
-    ghost use Rattle.board_script.specs.Parsing.{Parsing};
-    ghost use Rattle.board_script.specs.Stages.{IsStage};
+    ghost use Rattle.board_script.specs.Parser.{Parsing};
+    ghost use Rattle.board_script.specs.Stage.{IsBoardAt};
 
     ghost Value = { Parsing };
 
-    ghost view = { λ p. record { stage = p.stage; lines = p.lines; fault = p.fault } };
+    ghost view = { λ p.
+        record { stage = p.stage; board = p.board; lines = p.lines; fault = p.fault } };
 
-    ghost invariant = { λ p. IsStage p.stage };
+    ghost invariant = { λ p. IsBoardAt p.stage p.board };
 }
 
 const NO_SPANS: Spans = Spans {
     count: 0,
-    spans: [Span { first: 0, last: 0 }; 16],
+    spans: [Span { first: 0, last: 0 }; MOST_RANGES as usize],
 };
 
 /// The board before the first line.
@@ -68,8 +72,8 @@ fn refusal(line: u32) -> ScriptFault
 }
 
 impl Parser {
-    ghost use Rattle.board_script.specs.Parsing.{new_parsing, fed, parsing_after, finished};
-    ghost use Rattle.board_script.specs.Stages.{IsLineAt};
+    ghost use Rattle.board_script.specs.Lines.{IsSaidAt};
+    ghost use Rattle.board_script.specs.Parser.{new_parsing, read_of, fed, parsing_after, finished, parsing_at_end};
 
     /// A parser before the first line. No live script is in the language yet.
     pub fn new(live: bool) -> Parser
@@ -78,29 +82,29 @@ impl Parser {
     {
         prove!(!live);
         Parser {
-            stage: Stage::Header {
-                turn: Turn::Board,
-                board: least_board(),
-            },
+            stage: Stage::Header { turn: Turn::Board },
+            board: least_board(),
             lines: 0,
             fault: None,
         }
     }
 
-    /// Reads one line, without its newline. A line that is refused is a fault, which stands from then on.
-    pub fn feed(&mut self, line: &[u8]) -> Result<Line, ScriptFault>
-        ensures reads { result ≡ fed self.old line.now }
+    /// Reads one line, without its newline. A line that is refused is a fault, which is sticky.
+    pub fn read(&mut self, line: &[u8]) -> Result<Said, ScriptFault>
+        ensures value { result ≡ read_of self.old line.now }
         ensures after { self.new ≡ parsing_after self.old line.now }
-        ensures line { IfOk result (λ l. IsLineAt self.old.stage self.new.stage l) }
+        ensures fits { IfOk result (λ said. IsSaidAt self.old.stage self.old.board said) }
     {
         if let Some(fault) = self.fault {
             return Err(fault);
         }
         self.lines = self.lines.saturating_add(1);
-        match read_line(&self.stage, line) {
-            Some(Said::Work { actor, work }) => Ok(Line::Work { actor, work }),
-            Some(said) => advance(&mut self.stage, said),
-            None => {
+        match read(self.stage, &self.board, line) {
+            Ok(said) => {
+                advance(&mut self.stage, &mut self.board, &said);
+                Ok(said)
+            }
+            Err(_) => {
                 let fault = refusal(self.lines);
                 self.fault = Some(fault);
                 Err(fault)
@@ -108,18 +112,37 @@ impl Parser {
         }
     }
 
-    /// Ends the input: an error where a fault stands, or where no `go` line was fed.
+    /// The board so far: that of the script once its header is whole.
+    pub fn board(&self) -> &Board
+        ensures value { result.now ≡ self.now.board }
+        ensures is_board { IsBoard result.now }
+        ensures is_plain { IsPlain result.now }
+    {
+        &self.board
+    }
+
+    /// Reads one line, as `read` does, and hands out a copy of the board where the header is whole.
+    pub fn feed(&mut self, line: &[u8]) -> Result<Line, ScriptFault>
+        ensures value { result ≡ fed self.old line.now }
+        ensures after { self.new ≡ parsing_after self.old line.now }
+    {
+        let said = self.read(line)?;
+        Ok(whole_line(&self.board, said))
+    }
+
+    /// Ends the input: an error where a fault is sticky, or where no `go` line was fed. An error is sticky.
     pub fn finish(&mut self) -> Result<(), ScriptFault>
         ensures value { result ≡ finished self.old }
-        ensures stays { self.new ≡ self.old }
+        ensures after { self.new ≡ parsing_at_end self.old }
     {
         if let Some(fault) = self.fault {
             return Err(fault);
         }
-        match self.stage {
-            Stage::Header { .. } => Err(refusal(self.lines.saturating_add(1))),
-            Stage::Work { .. } => Ok(()),
-            Stage::Ended { .. } => Ok(()),
+        if let Stage::Header { .. } = self.stage {
+            let missing = refusal(self.lines.saturating_add(1));
+            self.fault = Some(missing);
+            return Err(missing);
         }
+        Ok(())
     }
 }

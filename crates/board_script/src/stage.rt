@@ -1,6 +1,13 @@
-//! How far a script is read.
+//! How far a script is read: the stage and the board after a line.
 
-use xv_model::board::Board;
+ghost use Rattle.std.specs.Prelude.{◌≡◌, ◌<◌};
+ghost use Rattle.xv_base.specs.Limits.{most_ranges};
+ghost use Rattle.board_script.specs.Lines.{IsSaidAt};
+ghost use Rattle.board_script.specs.declared.stage.Stage.TheVariants.{Header};
+ghost use Rattle.board_script.specs.Stage.{next_turn, header_after, stage_after, spans_with, board_with, board_after};
+
+use crate::lines::Said;
+use xv_model::board::{Board, Span, Spans};
 
 /// Which line of the header is next.
 #[derive(Clone, Copy)]
@@ -15,11 +22,94 @@ pub enum Turn {
     Go,
 }
 
-/// What may come next: a line of the header, where the board is as it is read so far; a line of work; or
-/// nothing that counts.
+/// What may come next: a line of the header, a line of work, or nothing that counts.
 #[derive(Clone, Copy)]
 pub enum Stage {
-    Header { turn: Turn, board: Board },
-    Work { board: Board },
-    Ended { board: Board },
+    Header { turn: Turn },
+    Work,
+    Ended,
+}
+
+/// Which line of the header follows.
+fn turn_after(turn: Turn) -> Turn
+    ensures { result ≡ next_turn turn }
+{
+    match turn {
+        Turn::Board => Turn::Sources,
+        Turn::Sources => Turn::Processors,
+        Turn::Processors => Turn::Threads,
+        Turn::Threads => Turn::Ram,
+        Turn::Ram => Turn::Actors,
+        Turn::Actors => Turn::Esb,
+        Turn::Esb => Turn::Go,
+        Turn::Go => Turn::Go,
+    }
+}
+
+/// The stage after a line of the header.
+fn after_header_line(turn: Turn, said: &Said) -> Stage
+    ensures { result ≡ header_after turn said.now }
+{
+    match said {
+        Said::Nothing => Stage::Header { turn },
+        Said::Go => Stage::Work,
+        _ => Stage::Header {
+            turn: turn_after(turn),
+        },
+    }
+}
+
+/// Puts one more span behind the others.
+fn add_span(spans: &mut Spans, span: Span)
+    requires { spans.old.count < most_ranges }
+    ensures { spans.new ≡ spans_with span spans.old }
+{
+    spans.spans[spans.count as usize] = span;
+    spans.count += 1;
+}
+
+/// Puts what a line of the header says into the board.
+fn extend(board: &mut Board, turn: Turn, said: &Said)
+    requires { IsSaidAt (Header turn) board.old said.now }
+    ensures { board.new ≡ board_with turn said.now board.old }
+{
+    match (turn, *said) {
+        (Turn::Sources, Said::Number { n }) => board.limits.sources = n,
+        (Turn::Processors, Said::Number { n }) => board.limits.processors = n,
+        (Turn::Threads, Said::Number { n }) => board.limits.threads = n,
+        (Turn::Ram, Said::Number { n }) => board.ram_mib = n,
+        (Turn::Actors, Said::Number { n }) => board.limits.actors = n,
+        (
+            Turn::Esb,
+            Said::Pages {
+                two_pages,
+                store_eoi,
+            },
+        ) => {
+            board.two_pages = two_pages;
+            board.store_eoi = store_eoi;
+        }
+        (Turn::Go, Said::Unclaimed { span }) => add_span(&mut board.unclaimed, span),
+        _ => {}
+    }
+}
+
+/// Goes on to the stage after a line, and puts what the line says into the board.
+pub(crate) fn advance(stage: &mut Stage, board: &mut Board, said: &Said)
+    requires { IsSaidAt stage.old board.old said.now }
+    ensures stage { stage.new ≡ stage_after stage.old said.now }
+    ensures board { board.new ≡ board_after stage.old said.now board.old }
+{
+    match *stage {
+        Stage::Work => {
+            if let Said::End = said {
+                *stage = Stage::Ended;
+            }
+        }
+        Stage::Header { turn } => {
+            extend(board, turn, said);
+            *stage = after_header_line(turn, said);
+        }
+        Stage::Ended => {}
+    }
 }

@@ -1,8 +1,9 @@
 //! Scripts that are read whole, spellings, and refusals.
 
 use crate::faults::{Cause, ScriptFault};
-use crate::lines::Line;
+use crate::lines::{Line, read};
 use crate::parser::Parser;
+use crate::stage::Stage;
 use crate::work::Work;
 use bitflags::Flags;
 use std::process::Abort;
@@ -97,7 +98,12 @@ fn reads_a_script(rt: HostRuntime) {
                     })
                 )
             );
-            assert!(rt; work.next(None, &Blind).is_none());
+            let set = Outcome::Pq {
+                old: 1,
+                new: 2,
+                forward: 0,
+            };
+            assert!(rt; work.next(Some(&set), &Blind).is_none());
         }
         _ => assert!(rt; false),
     }
@@ -141,6 +147,46 @@ fn reads_and_refuses_spellings(rt: HostRuntime) {
     assert!(rt; after_header(&rt).feed(&[b' '; 257]).is_err());
 }
 
+/// Where a line is refused after the header of the largest board, from byte 1 on; 0 where it is not.
+fn place_in(rt: &impl Abort, line: &[u8]) -> usize {
+    let parser = after_header(rt);
+    match read(Stage::Work, parser.board(), line) {
+        Ok(_) => 0,
+        Err(misread) => misread.byte(line),
+    }
+}
+
+#[test]
+fn names_the_place_of_a_refusal(rt: HostRuntime) {
+    let lines = [
+        (b"0 get 0".as_slice(), 0),
+        (b"  16 get 0", 3),
+        (b"0  got 0", 4),
+        (b"0 get 8192", 7),
+        (b"0 get  ", 8),
+        (b"0 get 0  1 2", 10),
+        (b"0 set 0 2", 9),
+        (b"0 endset 0 - 0 1 0 0 0 0", 3),
+        (b"0 endset 0 vv 0 0 0 0 0 0", 12),
+        (b"0 hcall 0 0 0 0 0 0", 9),
+        (b"end 0", 5),
+        (b"0 get\t0", 6),
+    ];
+    for (line, byte) in lines {
+        assert_eq!(rt; place_in(&rt, line), byte);
+    }
+    assert_eq!(rt; place_in(&rt, &[b'\t'; 300]), 257);
+}
+
+#[test]
+fn names_causes(rt: HostRuntime) {
+    assert_eq!(rt; Cause::NotBuilt.name(), b"not-built".as_slice());
+    assert_eq!(rt;
+        Cause::TooManyForwards.name(),
+        b"too-many-forwards".as_slice()
+    );
+}
+
 #[test]
 fn names_the_line_of_a_fault(rt: HostRuntime) {
     let mut parser = Parser::new(false);
@@ -160,6 +206,8 @@ fn names_the_line_of_a_fault(rt: HostRuntime) {
     assert_eq!(rt; parser.finish(), Err(fault));
     let mut short = Parser::new(false);
     assert!(rt; first_fault(&mut short, &lines[..3]).is_none());
+    assert_eq!(rt; short.finish(), Err(fault));
+    assert!(rt; matches!(short.feed(b"sources 1"), Err(f) if f == fault));
     assert_eq!(rt; short.finish(), Err(fault));
 }
 

@@ -1,18 +1,37 @@
-//! The words of a line.
+//! The words of a line, read from the left.
 
 ghost use Rattle.std.specs.Prelude.{◌≡◌, ◌≤◌, length};
-ghost use Rattle.board_script.specs.Words.{are_printable, skip, word_len, word_of, rest_of, is_blank, is_word};
+ghost use Rattle.board_script.specs.Words.{from_unprintable, skip, word_len, is_word};
 
-/// Whether each byte may stand in a line.
-pub fn printable(line: &[u8]) -> bool
-    ensures { result ≡ are_printable line.now }
+use crate::faults::Misread;
+use std::marker::Model;
+
+/// The words of a line that are not read yet. A contract sees the bytes from the next word on.
+#[derive(Drop)]
+pub struct Words<'a> {
+    rest: &'a [u8],
+}
+
+impl<'a> Model for Words<'a> {
+    ghost use Rattle.std.specs.Prelude.{ℕ, List};
+
+    ghost Value = { List ℕ };
+
+    ghost view = { λ w. w.rest.now };
+}
+
+/// What stands from the first byte on that may not stand in a line.
+pub fn unprintable(line: &[u8]) -> &[u8]
+    ensures { result.now ≡ from_unprintable line.now }
 {
-    for b in line {
-        if *b < 0x20 || *b > 0x7e {
-            return false;
+    let mut rest = line;
+    while let [first, more @ ..] = rest {
+        if *first < 0x20 || *first > 0x7e {
+            return rest;
         }
+        rest = more;
     }
-    true
+    rest
 }
 
 /// The line without the spaces at its front.
@@ -42,26 +61,83 @@ fn first_len(line: &[u8]) -> usize
     line.len()
 }
 
-/// The first word, empty where there is none, and what stands after it.
-pub fn cut(line: &[u8]) -> (&[u8], &[u8])
-    ensures word { result.0.now ≡ word_of line.now }
-    ensures rest { result.1.now ≡ rest_of line.now }
-{
-    let line = without_spaces(line);
-    let at = first_len(line);
-    (&line[..at], &line[at..])
-}
-
-/// Whether no word stands in what is left of a line.
-pub fn blank(line: &[u8]) -> bool
-    ensures { result ≡ is_blank line.now }
-{
-    without_spaces(line).is_empty()
-}
-
 /// Whether a word is this one.
 pub fn same(word: &[u8], name: &[u8]) -> bool
     ensures { result ≡ is_word name.now word.now }
 {
     word == name
+}
+
+impl<'a> Words<'a> {
+    ghost use Rattle.board_script.specs.Words.{says_nothing as nothing_said, word_of, rest_of, misread_at, done_at, name_at};
+
+    /// The words of a line.
+    pub fn new(line: &'a [u8]) -> Words<'a>
+        ensures { result ≡ skip line.now }
+    {
+        Words {
+            rest: without_spaces(line),
+        }
+    }
+
+    /// Whether no word is left, or a comment.
+    pub fn says_nothing(&self) -> bool
+        ensures { result ≡ nothing_said self.now }
+    {
+        match self.rest {
+            [] => true,
+            [first, ..] => *first == b'#',
+        }
+    }
+
+    /// Refuses the line at the next word, or where one is missing.
+    pub fn here(&self) -> Misread
+        ensures { result ≡ misread_at self.now }
+    {
+        Misread {
+            left: self.rest.len(),
+        }
+    }
+
+    /// The next word, empty where there is none.
+    pub fn peek(&self) -> &'a [u8]
+        ensures { result.now ≡ word_of self.now }
+    {
+        &self.rest[..first_len(self.rest)]
+    }
+
+    /// Reads the next word, empty where there is none.
+    pub fn next(&mut self) -> &'a [u8]
+        ensures word { result.now ≡ word_of self.old }
+        ensures rest { self.new ≡ rest_of self.old }
+    {
+        let at = first_len(self.rest);
+        let word = &self.rest[..at];
+        self.rest = without_spaces(&self.rest[at..]);
+        word
+    }
+
+    /// Refuses a further word.
+    pub fn done(&self) -> Result<(), Misread>
+        ensures { result ≡ done_at self.now }
+    {
+        if self.rest.is_empty() {
+            Ok(())
+        } else {
+            Err(self.here())
+        }
+    }
+
+    /// Reads a word that has to be this one.
+    pub fn name(&mut self, name: &[u8]) -> Result<(), Misread>
+        ensures value { result ≡ name_at name.now self.old }
+        ensures rest { self.new ≡ rest_of self.old }
+    {
+        let here = self.here();
+        if same(self.next(), name) {
+            Ok(())
+        } else {
+            Err(here)
+        }
+    }
 }

@@ -1,94 +1,63 @@
-//! A work line on the way.
+//! Work lines, and the operations that they make.
 
-ghost use Rattle.std.specs.Prelude.{◌≡◌, ◌<◌, true, false, List, ◌∷◌, option_copied, IfSome};
-ghost use Rattle.std.specs.Option.{option_map_or};
+ghost use Rattle.std.specs.Prelude.{◌≡◌, ◌∷◌, ◌++◌, List, option_copied, IfSome, IsTrue};
 ghost use Rattle.xv_model.specs.declared.board.Board.{Board};
 ghost use Rattle.xv_model.specs.declared.entries.Entry.{Entry};
-ghost use Rattle.xv_model.specs.Triggers.{is_forwarded};
-ghost use Rattle.xv_model.specs.Validity.{valid};
+ghost use Rattle.xv_model.specs.account.Start.{Start};
+ghost use Rattle.xv_model.specs.board.Validity.{valid};
+ghost use Rattle.board_script.specs.declared.work.Work.{Work as AWork};
 
 use xv_model::known::Known;
-use xv_model::operations::Op;
+use xv_model::operations::{Op, PqOp};
 use xv_model::outcomes::Outcome;
 
-/// How far a work line is: which operation it makes next.
+/// A work line on its way. Where it stands is told by the outcome of its last operation.
 #[derive(Clone, Copy)]
-pub enum Step {
-    First,
-    Second,
-    Over,
-}
-
-/// A work line of one or two operations: the first one, the source whose notice is routed where that
-/// forwarded, and how far the line is.
-#[derive(Clone, Copy)]
-pub struct Work {
-    op: Op,
-    follow: Option<u32>,
-    at: Step,
-}
-
-/// Whether the last operation forwarded.
-fn forwarded(last: Option<&Outcome>) -> bool
-    ensures { result ≡ option_map_or is_forwarded (option_copied last.entry) false }
-{
-    match last {
-        Some(Outcome::Pq { forward, .. }) => *forward != 0,
-        _ => false,
-    }
+pub enum Work {
+    /// One operation.
+    Once { op: Op },
+    /// An operation on the word of a source; where it forwards, also the route of the notice.
+    ThenRoute { s: u32, op: PqOp },
 }
 
 impl Work {
-    ghost use Rattle.board_script.specs.Working.{HasMade, HasValidSteps, IsLast, next_op, once as once_of, followed as followed_of, steps_left};
+    ghost use Rattle.board_script.specs.Work.{next_op, IsAt, IsLast, Falls, HasValidSteps};
 
-    /// A line that has not made its operation yet, and makes no second one.
-    pub fn once(op: Op) -> Work
-        ensures { result ≡ once_of op }
-    {
-        Work {
-            op,
-            follow: None,
-            at: Step::First,
-        }
-    }
-
-    /// A line that routes the notice of a source where its first operation forwarded.
-    pub fn followed(op: Op, s: u32) -> Work
-        ensures { result ≡ followed_of op s }
-    {
-        Work {
-            op,
-            follow: Some(s),
-            at: Step::First,
-        }
-    }
-
-    /// The operation that the line makes next; none where it has made all. `last` is what its last operation
-    /// answered, and `known` what is known of the account: no line asks that yet.
+    /// The operation that the line makes next; none where it is done. `last` is what its last operation
+    /// answered, none before the first one, and `known` what is known of the account with its entries.
     pub fn next<N: Known>(&mut self, last: Option<&Outcome>, known: &N) -> Option<Op>
-        ensures value { (w : Work) (part account : List Entry) → HasMade self.old w part → IsLast part (option_copied last.entry) → result ≡ next_op w part account }
-        ensures made { IfSome result (λ o. (w : Work) (part : List Entry) (x : Entry) → HasMade self.old w part → x.op ≡ o → HasMade self.new w (x ∷ part)) }
-        ensures valid { IfSome result (λ o. (b : Board) → HasValidSteps b self.old → valid b o ≡ true) }
-        ensures falls { IfSome result (λ o. steps_left self.new < steps_left self.old) }
-        ensures kept { (self.new.op ≡ self.old.op) × (self.new.follow ≡ self.old.follow) }
+        ensures value { (w : AWork) (z : Start) (before part : List Entry) →
+            IsAt self.old w z before part → N.knows known.now z (part ++ before) →
+            IsLast part (option_copied last.entry) → result ≡ next_op w z before part }
+        ensures after { IfSome result (λ o.
+            (w : AWork) (z : Start) (before part : List Entry) (x : Entry) →
+            IsAt self.old w z before part → x.op ≡ o → IsAt self.new w z before (x ∷ part)) }
+        ensures falls { IfSome result (λ o.
+            (w : AWork) (z : Start) (before part : List Entry) →
+            IsAt self.old w z before part → N.knows known.now z (part ++ before) →
+            IsLast part (option_copied last.entry) →
+            Falls self.old self.new (option_copied last.entry) z (part ++ before) o) }
+        ensures valid { IfSome result (λ o. (b : Board) →
+            HasValidSteps b self.old → IsTrue (valid b o)) }
+        ensures stays { (b : Board) → HasValidSteps b self.old → HasValidSteps b self.new }
     {
         let _ = known;
-        match self.at {
-            Step::First => {
-                self.at = Step::Second;
-                Some(self.op)
-            }
-            Step::Second => match self.follow {
-                Some(s) => {
-                    if !forwarded(last) {
-                        return None;
-                    }
-                    self.at = Step::Over;
-                    Some(Op::Route { s })
-                }
-                None => None,
+        match *self {
+            Work::Once { op } => match last {
+                None => Some(op),
+                Some(_) => None,
             },
-            Step::Over => None,
+            Work::ThenRoute { s, op } => match last {
+                None => Some(Op::Pq { s, op }),
+                Some(Outcome::Pq { forward, .. }) => {
+                    if *forward == 0 {
+                        None
+                    } else {
+                        Some(Op::Route { s })
+                    }
+                }
+                Some(_) => None,
+            },
         }
     }
 }

@@ -1,54 +1,71 @@
-//! Lines of work.
+//! Lines after the header.
 
-ghost use Rattle.std.specs.Prelude.{◌≡◌, IfSome};
-ghost use Rattle.board_script.specs.Working.{HasValidSteps, IsFresh};
-ghost use Rattle.board_script.specs.Lines.{steps_of, work_of, IsWorkSaid};
+ghost use Rattle.std.specs.Prelude.{◌≡◌};
+ghost use Rattle.board_script.specs.Working.{steps_by, steps_of, work_of};
 
 use crate::configuring::{endset, hcall};
+use crate::faults::Misread;
 use crate::lines::Said;
-use crate::numbers::bounded;
-use crate::sources::{routed, single};
-use crate::words::{blank, cut, same};
+use crate::sources::{access_line, route_line, set_line, then_route};
+use crate::words::{Words, same};
 use crate::work::Work;
 use xv_model::board::Board;
 use xv_model::operations::PqOp;
 
-/// The work of a line, by the name of the operation and what stands after it. The names that come most often
-/// are tried first.
-fn steps(board: &Board, name: &[u8], rest: &[u8]) -> Option<Work>
-    ensures value { result ≡ steps_of board.now name.now rest.now }
-    ensures valid { IfSome result (λ w. HasValidSteps board.now w) }
-    ensures fresh { IfSome result (λ w. IsFresh w) }
+/// The work of a line, by the name of its operation and what stands after it. The names that come most often
+/// are tried first; an unknown one is refused `here`.
+fn named(board: &Board, here: Misread, name: &[u8], words: &mut Words) -> Result<Work, Misread>
+    ensures { result ≡ steps_by board.now here name.now words.old }
 {
     if same(name, b"fire") {
-        return routed(board, PqOp::Trigger, rest);
+        return then_route(board, PqOp::Trigger, words);
     }
     if same(name, b"finish") {
-        return routed(board, PqOp::Eoi, rest);
+        return then_route(board, PqOp::Eoi, words);
+    }
+    if same(name, b"trigger") {
+        return access_line(board, PqOp::Trigger, words);
+    }
+    if same(name, b"eoi") {
+        return access_line(board, PqOp::Eoi, words);
+    }
+    if same(name, b"get") {
+        return access_line(board, PqOp::Get, words);
+    }
+    if same(name, b"set") {
+        return set_line(board, words);
+    }
+    if same(name, b"route") {
+        return route_line(board, words);
     }
     if same(name, b"endset") {
-        return endset(board, rest);
+        return endset(board, here, words);
     }
     if same(name, b"hcall") {
-        return hcall(rest);
+        return hcall(words);
     }
-    single(board, name, rest)
+    Err(here)
 }
 
-/// A line after the header, by its first word and what stands after it.
-pub fn work_line(board: &Board, word: &[u8], rest: &[u8]) -> Option<Said>
-    ensures reads { result ≡ work_of board.now word.now rest.now }
-    ensures said { IfSome result (λ said. IsWorkSaid board.now said) }
+/// The work of a line, from the name of its operation on.
+fn steps(board: &Board, words: &mut Words) -> Result<Work, Misread>
+    ensures { result ≡ steps_of board.now words.old }
 {
-    if same(word, b"end") {
-        return if blank(rest) { Some(Said::End) } else { None };
+    let here = words.here();
+    let name = words.next();
+    named(board, here, name, words)
+}
+
+/// A line after the header: the end of the script, or an actor and its work.
+pub fn work_line(board: &Board, words: &mut Words) -> Result<Said, Misread>
+    ensures { result ≡ work_of board.now words.old }
+{
+    if same(words.peek(), b"end") {
+        words.next();
+        words.done()?;
+        return Ok(Said::End);
     }
-    let (name, rest) = cut(rest);
-    match bounded(word, 0, board.limits.actors) {
-        Some(actor) => match steps(board, name, rest) {
-            Some(work) => Some(Said::Work { actor, work }),
-            None => None,
-        },
-        None => None,
-    }
+    let actor = words.bounded(0, board.limits.actors)?;
+    let work = steps(board, words)?;
+    Ok(Said::Work { actor, work })
 }

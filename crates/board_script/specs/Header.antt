@@ -1,0 +1,66 @@
+-- Lines of the header.
+use Rattle.std.specs.Prelude.{ℕ, ◌==◌, ◌+◌, ◌&&◌, nat_lt, if◌then◌else◌, List, codes, Option, Some, None, Err}
+use Rattle.std.specs.declared.result.Result.{Result}
+use Rattle.xv_base.specs.Limits.{most_sources, most_processors, most_threads, most_actors, most_ram_mib, most_ranges}
+use Rattle.xv_model.specs.declared.board.Board.{Board}
+use Rattle.board_script.specs.declared.faults.Misread.{Misread}
+use Rattle.board_script.specs.declared.stage.Turn.{Turn}
+use Rattle.board_script.specs.declared.stage.Turn.TheVariants as turns
+use Rattle.board_script.specs.declared.lines.Said.{Said}
+use Rattle.board_script.specs.declared.lines.Said.TheVariants as said
+use Rattle.board_script.specs.Words.{word_of, rest_of, is_word, misread_at, name_at, then_at, at_end}
+use Rattle.board_script.specs.Numbers.{bounded_at}
+
+-- a line of the header that has one number: its name, and the numbers from low to most
+pub record Count : Type 0 where
+  pub name : List ℕ
+  pub low : ℕ
+  pub most : ℕ
+
+-- what a turn of the header counts, where it does
+abbrev pub count_of : Turn → Option Count
+count_of turns.Board = Some (record { name = codes "board"; low = 1; most = 1 })
+count_of turns.Sources = Some (record { name = codes "sources"; low = 1; most = most_sources })
+count_of turns.Processors = Some (record { name = codes "processors"; low = 1; most = most_processors })
+count_of turns.Threads = Some (record { name = codes "threads"; low = 1; most = most_threads })
+count_of turns.Ram = Some (record { name = codes "ram"; low = 0; most = most_ram_mib })
+count_of turns.Actors = Some (record { name = codes "actors"; low = 1; most = most_actors })
+count_of turns.Esb = None
+count_of turns.Go = None
+
+-- a line of a name and a number from low to most
+abbrev pub number_line_of : List ℕ → ℕ → ℕ → List ℕ → Result Said Misread
+number_line_of name low most rest =
+    then_at (name_at name) rest (λ u rest.
+    then_at (bounded_at low (most + 1)) rest (λ n rest. at_end rest (said.Number n)))
+
+-- the line of the pages of a source: how many, and whether a store is an EOI
+abbrev pub pages_line_of : List ℕ → Result Said Misread
+pages_line_of rest =
+    then_at (name_at (codes "esb")) rest (λ u rest.
+    then_at (bounded_at 1 3) rest (λ pages rest.
+    then_at (bounded_at 0 2) rest (λ eoi rest. at_end rest (said.Pages (pages == 2) (eoi == 1)))))
+
+-- a range of sources that start unclaimed, by what stands after its name
+abbrev pub unclaimed_of : Board → List ℕ → Result Said Misread
+unclaimed_of b rest =
+    then_at (bounded_at 0 b.limits.sources) rest (λ first rest.
+    then_at (bounded_at first b.limits.sources) rest (λ last rest.
+    at_end rest (said.Unclaimed (record { first = first; last = last }))))
+
+-- a line at the end of the header: a range, where the board has room for one more, or the end
+abbrev pub last_line_of : Board → List ℕ → Result Said Misread
+last_line_of b rest =
+    if is_word (codes "unclaimed") (word_of rest) && nat_lt b.unclaimed.count most_ranges then
+    unclaimed_of b (rest_of rest)
+    else (if is_word (codes "go") (word_of rest) then at_end (rest_of rest) said.Go else Err (misread_at rest))
+
+-- a line of the header at a turn, by what that counts
+abbrev pub header_by : Option Count → Turn → Board → List ℕ → Result Said Misread
+header_by (Some c) turn b rest = number_line_of c.name c.low c.most rest
+header_by None turns.Esb b rest = pages_line_of rest
+header_by None turn b rest = last_line_of b rest
+
+-- a line of the header
+abbrev pub header_of : Turn → Board → List ℕ → Result Said Misread
+header_of turn b rest = header_by (count_of turn) turn b rest

@@ -1,0 +1,87 @@
+-- How far a script is read: the stage and the board after a line.
+use Rattle.std.specs.Prelude.{◌≡◌, ◌+◌, false, replicate, slice_set}
+use Rattle.xv_model.specs.declared.board.Board.{Board}
+use Rattle.xv_model.specs.declared.board.Span.{Span}
+use Rattle.xv_model.specs.declared.board.Spans.{Spans}
+use Rattle.xv_model.specs.board.Boards.{IsBoard, IsPlain}
+use Rattle.board_script.specs.declared.stage.Turn.{Turn}
+use Rattle.board_script.specs.declared.stage.Turn.TheVariants as turns
+use Rattle.board_script.specs.declared.stage.Stage.{Stage}
+use Rattle.board_script.specs.declared.stage.Stage.TheVariants.{Header, Work, Ended}
+use Rattle.board_script.specs.declared.lines.Said.{Said}
+use Rattle.board_script.specs.declared.lines.Said.TheVariants as said
+
+-- no ranges
+abbrev pub no_spans : Spans
+no_spans = record { count = 0; spans = replicate 16 (record { first = 0; last = 0 }) }
+
+-- the board before the first line: the least one, without ranges
+abbrev pub first_board : Board
+first_board = record {
+  limits = record { sources = 1; processors = 1; threads = 1; actors = 1 };
+  ram_mib = 0;
+  two_pages = false;
+  store_eoi = false;
+  level = no_spans;
+  unclaimed = no_spans;
+  unconnected = no_spans;
+}
+
+-- which line of the header follows
+abbrev pub next_turn : Turn → Turn
+next_turn turns.Board = turns.Sources
+next_turn turns.Sources = turns.Processors
+next_turn turns.Processors = turns.Threads
+next_turn turns.Threads = turns.Ram
+next_turn turns.Ram = turns.Actors
+next_turn turns.Actors = turns.Esb
+next_turn turns.Esb = turns.Go
+next_turn turns.Go = turns.Go
+
+-- the stage after a line of the header
+abbrev pub header_after : Turn → Said → Stage
+header_after turn said.Nothing = Header turn
+header_after turn said.Go = Work
+header_after turn _ = Header (next_turn turn)
+
+-- the stage after a line
+abbrev pub stage_after : Stage → Said → Stage
+stage_after (Header turn) it = header_after turn it
+stage_after Work said.End = Ended
+stage_after stage _ = stage
+
+-- spans with one more
+abbrev pub spans_with : Span → Spans → Spans
+spans_with span spans = record { count = spans.count + 1; spans = slice_set spans.spans spans.count span }
+
+-- the board with what a line of the header says at its turn
+abbrev pub board_with : Turn → Said → Board → Board
+board_with turns.Sources (said.Number n) b = record b { limits = record b.limits { sources = n } }
+board_with turns.Processors (said.Number n) b = record b { limits = record b.limits { processors = n } }
+board_with turns.Threads (said.Number n) b = record b { limits = record b.limits { threads = n } }
+board_with turns.Ram (said.Number n) b = record b { ram_mib = n }
+board_with turns.Actors (said.Number n) b = record b { limits = record b.limits { actors = n } }
+board_with turns.Esb (said.Pages two store) b = record b { two_pages = two; store_eoi = store }
+board_with turns.Go (said.Unclaimed span) b = record b { unclaimed = spans_with span b.unclaimed }
+board_with _ _ b = b
+
+-- the board after a line: the lines of the header make it
+abbrev pub board_after : Stage → Said → Board → Board
+board_after (Header turn) it b = board_with turn it b
+board_after _ it b = b
+
+-- the ranges of sources that lines before this turn can give: none before the last lines
+abbrev pub HasRangesAt : Turn → Spans → Type 0
+HasRangesAt turns.Go spans = Unit {0}
+HasRangesAt _ spans = spans.count ≡ 0
+
+-- the ranges that a stage can have met
+abbrev pub HasRanges : Stage → Spans → Type 0
+HasRanges (Header turn) spans = HasRangesAt turn spans
+HasRanges _ spans = Unit {0}
+
+-- the board so far is one without level sources and unconnected processors, which the lines so far can give
+pub record IsBoardAt (stage : Stage) (b : Board) : Type 0 where
+  pub is_board : IsBoard b
+  pub is_plain : IsPlain b
+  pub ranges : HasRanges stage b.unclaimed
