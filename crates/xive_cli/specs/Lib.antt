@@ -1,7 +1,13 @@
-pub mod States
-pub mod Held
-pub mod Standing
-pub mod Refusals
-pub mod Inputs
-pub mod Running
+-- What the program reads, runs and tells.
+pub mod Command
+pub mod Complaints
+pub mod Input
+pub mod Output
+pub mod Reading
+pub mod Line
+pub mod Work
+pub mod Report
+pub mod Stop
+pub mod Ending
 pub mod Top
+pub mod commands

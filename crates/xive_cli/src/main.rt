@@ -1,19 +1,22 @@
 //! The program: it reads a board script on standard input, and writes its account on standard output.
 #![tactic(auto)]
 
-mod answering;
 mod command;
+mod commands;
+mod complaints;
+mod ending;
+mod header;
 mod input;
-mod known;
-mod machine;
+mod line;
 mod output;
-mod printer;
+mod reading;
 mod report;
-mod run;
-mod state;
 mod stop;
 mod top;
+mod work;
 
+use command::words_behind_name;
+use complaints::{complaint, unread_words};
 use std::process::ExitCode;
 use std::rt::Env;
 use std::{env, io};
@@ -21,29 +24,19 @@ use top::run_top;
 use xv_base::{NoMemory, Status, Word};
 use xv_io::{StdSink, StdSource};
 
-/// The words behind the program's name. A word that isn't UTF-8 is none of any command.
+/// The words behind the program's name, or how a run ends without them.
 fn command_words<R: Env + AllocGlobal>(rt: &R) -> Result<Vec<Word>, Status> {
-    let args = match env::args(rt) {
-        Ok(args) => args,
-        Err(error) => {
-            return Err(if error.kind() == io::ErrorKind::InvalidData {
-                Status::Usage
-            } else {
-                Status::NoMemory
-            });
-        }
+    let args: Vec<String> = match env::args(rt) {
+        Ok(args) => match args.collect(rt.alloc()) {
+            Ok(args) => args,
+            Err(_) => return Err(Status::NoMemory),
+        },
+        Err(error) => return Err(unread_words(error.kind())),
     };
-    let mut words = Vec::new(rt.alloc());
-    for arg in args.skip(1) {
-        let word = match Word::from_bytes(rt.alloc(), arg.as_bytes()) {
-            Ok(word) => word,
-            Err(NoMemory) => return Err(Status::NoMemory),
-        };
-        if words.push(word).is_err() {
-            return Err(Status::NoMemory);
-        }
+    match words_behind_name(rt.alloc(), args.as_slice()) {
+        Ok(words) => Ok(words),
+        Err(NoMemory) => Err(Status::NoMemory),
     }
-    Ok(words)
 }
 
 fn main(rt: HostRuntime) -> ExitCode {
@@ -55,8 +48,9 @@ fn main(rt: HostRuntime) -> ExitCode {
         }
         Err(status) => status,
     };
-    if status == Status::Usage {
-        let _ = rt.eprintln("usage: xive_cli run");
+    let text = complaint(status);
+    if !text.is_empty() {
+        let _ = rt.eprintln(text);
     }
     ExitCode::from(status.number())
 }

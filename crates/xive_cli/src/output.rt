@@ -1,37 +1,27 @@
-//! What gathers the output of a run.
+//! What a run tells: text is gathered here, and written to the sink in large pieces.
 
-ghost use Rattle.std.specs.Prelude.{◌≡◌, ◌≤◌, ◌++◌, [], OnOk, OnErr};
-ghost use Rattle.xv_io.specs.Faults.{HasRisen, AppendsPrefix};
-ghost use Rattle.xv_io.specs.Gathered.{Puts};
+ghost use Rattle.std.specs.Prelude.{◌≡◌, ◌<◌, [], length};
+ghost use Rattle.xv_io.specs.declared.writer.TheConstants.{PIECE};
 
-use crate::printer::text::Text;
-use arrayvec::ArrayVec;
-use xv_io::{Failed, Sink, Writer};
+use xv_io::{Sink, Writer};
 
-/// The line that is printed at the moment, and the writer of whole lines.
+/// A sink, and the text that is gathered for it. Between two calls there is room for one more text.
 #[derive(Drop)]
-pub struct Output {
-    pub line: Text,
+pub struct Output<'a, K: Sink> {
+    pub sink: &'a mut K,
     pub writer: Writer,
+    ghost room: { length writer.gathered.items < PIECE },
 }
 
-impl Output {
-    pub fn new() -> Output
-        ensures { result.writer ≡ [] }
+impl<'a, K: Sink> Output<'a, K> {
+    pub fn new(sink: &'a mut K) -> Output<'a, K>
+        ensures same { result.sink.ghost_name ≡ sink.entry.ghost_name }
+        ensures now { result.sink.now ≡ sink.old }
+        ensures gathered { result.writer.gathered.items ≡ [] }
     {
         Output {
-            line: ArrayVec::new(),
+            sink,
             writer: Writer::new(),
         }
-    }
-
-    /// Puts the line that is printed, and keeps it. After an error what wasn't written is lost.
-    pub fn put<K: Sink>(&mut self, sink: &mut K) -> Result<(), Failed>
-        ensures ok { OnOk result (Puts self.old.writer (K.held sink.old) self.new.writer (K.held sink.new) self.old.line.items) }
-        ensures err { OnErr result (AppendsPrefix (K.held sink.old) (K.held sink.new) (self.old.writer ++ self.old.line.items)) }
-        ensures failed { OnErr result (HasRisen (K.faults sink.old) (K.faults sink.new)) }
-        ensures count { K.faults sink.old ≤ K.faults sink.new }
-    {
-        self.writer.put(sink, self.line.as_slice())
     }
 }

@@ -1,115 +1,144 @@
 //! The report at the end of an account.
 
-ghost use Rattle.std.specs.Prelude.{◌≡◌, ◌*◌, ◌≤◌, ◌++◌, List, OnOk, OnErr};
-ghost use Rattle.xv_io.specs.Faults.{HasRisen, AppendsPrefix};
-ghost use Rattle.xv_io.specs.Gathered.{Puts};
-ghost use Rattle.xv_model.specs.declared.entries.Entry.{Entry};
-ghost use Rattle.xv_model.specs.Start.{start};
-ghost use Rattle.xv_model.specs.Text.{source_line, queue_line, processor_line, ring_line, texts_below, report_text};
-ghost use Rattle.xive_cli.specs.Standing.{StandsFor};
+ghost use Rattle.std.specs.Prelude.{◌≡◌, ◌≤◌, OnOk, OnErr};
+ghost use Rattle.account.specs.Account.{report_text};
+ghost use Rattle.xive_cli.specs.Output.{told};
+ghost use Rattle.xive_cli.specs.Report.{TellsOf, FailsOf, sources_text, queues_text, processors_text, rings_text, first_text, last_text};
 
-use crate::machine::Machine;
 use crate::output::Output;
-use crate::printer::report::{add_end, add_end_queue, add_last, add_ring, add_saved, add_source};
+use account::report::{
+    add_done, add_end, add_flight, add_notices, add_processor, add_queue, add_ring, add_source,
+};
+use machine::Machine;
+use xv_base::limits::ENDS_PER_PROCESSOR;
 use xv_io::{Failed, Sink};
+use xv_model::outcomes::Phase;
 
 /// Puts the lines of the sources.
-fn put_sources<K: Sink>(machine: &Machine, output: &mut Output, sink: &mut K) -> Result<(), Failed>
-    ensures ok { OnOk result ((h : List Entry) → StandsFor machine.now (start machine.now.tables.board) h →
-        Puts output.old.writer (K.held sink.old) output.new.writer (K.held sink.new) (texts_below (source_line (start machine.now.tables.board) h) machine.now.tables.board.limits.sources)) }
-    ensures err { OnErr result ((h : List Entry) → StandsFor machine.now (start machine.now.tables.board) h →
-        AppendsPrefix (K.held sink.old) (K.held sink.new) (output.old.writer ++ texts_below (source_line (start machine.now.tables.board) h) machine.now.tables.board.limits.sources)) }
-    ensures failed { OnErr result (HasRisen (K.faults sink.old) (K.faults sink.new)) }
-    ensures count { K.faults sink.old ≤ K.faults sink.new }
+fn put_sources<K: Sink>(machine: &Machine, output: &mut Output<'_, K>) -> Result<(), Failed>
+    ensures sink { output.new.sink.ghost_name ≡ output.old.sink.ghost_name }
+    ensures ok { OnOk result
+        (TellsOf machine.now sources_text (told output.old) (told output.new)) }
+    ensures err { OnErr result
+        (FailsOf machine.now sources_text (told output.old) (told output.new)) }
+    ensures count { K.faults output.old.sink.now ≤ K.faults output.new.sink.now }
 {
     for s in 0..machine.board().limits.sources {
-        let state = machine.source(s);
-        output.line.clear();
+        let source = machine.source(s);
         add_source(
-            &mut output.line,
+            &mut output.writer.gathered,
             s,
-            state.pair,
-            state.forwards,
-            machine.routes(s),
+            source.pq,
+            source.asserted,
+            source.forwards,
+            source.routes,
         );
-        output.put(sink)?;
+        output.writer.settle(output.sink)?;
     }
     Ok(())
 }
 
 /// Puts the lines of the ENDs.
-fn put_queues<K: Sink>(machine: &Machine, output: &mut Output, sink: &mut K) -> Result<(), Failed>
-    ensures ok { OnOk result ((h : List Entry) → StandsFor machine.now (start machine.now.tables.board) h →
-        Puts output.old.writer (K.held sink.old) output.new.writer (K.held sink.new) (texts_below (queue_line (start machine.now.tables.board) h) (8 * machine.now.tables.board.limits.processors))) }
-    ensures err { OnErr result ((h : List Entry) → StandsFor machine.now (start machine.now.tables.board) h →
-        AppendsPrefix (K.held sink.old) (K.held sink.new) (output.old.writer ++ texts_below (queue_line (start machine.now.tables.board) h) (8 * machine.now.tables.board.limits.processors))) }
-    ensures failed { OnErr result (HasRisen (K.faults sink.old) (K.faults sink.new)) }
-    ensures count { K.faults sink.old ≤ K.faults sink.new }
+fn put_queues<K: Sink>(machine: &Machine, output: &mut Output<'_, K>) -> Result<(), Failed>
+    ensures sink { output.new.sink.ghost_name ≡ output.old.sink.ghost_name }
+    ensures ok { OnOk result
+        (TellsOf machine.now queues_text (told output.old) (told output.new)) }
+    ensures err { OnErr result
+        (FailsOf machine.now queues_text (told output.old) (told output.new)) }
+    ensures count { K.faults output.old.sink.now ≤ K.faults output.new.sink.now }
 {
-    for e in 0..8 * machine.board().limits.processors {
-        output.line.clear();
-        add_end_queue(&mut output.line, e, machine.queue(e));
-        output.put(sink)?;
+    for e in 0..ENDS_PER_PROCESSOR * machine.board().limits.processors {
+        let queue = machine.queue(e);
+        add_queue(
+            &mut output.writer.gathered,
+            e,
+            queue.config.flags,
+            queue.written,
+            queue.taken,
+            queue.esn,
+            queue.ese,
+        );
+        output.writer.settle(output.sink)?;
     }
     Ok(())
 }
 
-/// Puts the lines of the processors.
-fn put_processors<K: Sink>(
-    machine: &Machine,
-    output: &mut Output,
-    sink: &mut K,
-) -> Result<(), Failed>
-    ensures ok { OnOk result (Puts output.old.writer (K.held sink.old) output.new.writer (K.held sink.new) (texts_below (processor_line (start machine.now.tables.board)) machine.now.tables.board.limits.processors)) }
-    ensures err { OnErr result (AppendsPrefix (K.held sink.old) (K.held sink.new) (output.old.writer ++ texts_below (processor_line (start machine.now.tables.board)) machine.now.tables.board.limits.processors)) }
-    ensures failed { OnErr result (HasRisen (K.faults sink.old) (K.faults sink.new)) }
-    ensures count { K.faults sink.old ≤ K.faults sink.new }
+/// Puts the lines of the processors, which are all connected and saved.
+fn put_processors<K: Sink>(machine: &Machine, output: &mut Output<'_, K>) -> Result<(), Failed>
+    ensures sink { output.new.sink.ghost_name ≡ output.old.sink.ghost_name }
+    ensures ok { OnOk result
+        (TellsOf machine.now processors_text (told output.old) (told output.new)) }
+    ensures err { OnErr result
+        (FailsOf machine.now processors_text (told output.old) (told output.new)) }
+    ensures count { K.faults output.old.sink.now ≤ K.faults output.new.sink.now }
 {
     for v in 0..machine.board().limits.processors {
-        output.line.clear();
-        add_saved(&mut output.line, v);
-        output.put(sink)?;
+        add_processor(&mut output.writer.gathered, v, Phase::Saved, 0, 0, 0);
+        output.writer.settle(output.sink)?;
     }
     Ok(())
 }
 
-/// Puts the lines of the rings.
-fn put_rings<K: Sink>(threads: u32, output: &mut Output, sink: &mut K) -> Result<(), Failed>
-    ensures ok { OnOk result (Puts output.old.writer (K.held sink.old) output.new.writer (K.held sink.new) (texts_below ring_line threads)) }
-    ensures err { OnErr result (AppendsPrefix (K.held sink.old) (K.held sink.new) (output.old.writer ++ texts_below ring_line threads)) }
-    ensures failed { OnErr result (HasRisen (K.faults sink.old) (K.faults sink.new)) }
-    ensures count { K.faults sink.old ≤ K.faults sink.new }
+/// Puts the lines of the rings, which are all free.
+fn put_rings<K: Sink>(machine: &Machine, output: &mut Output<'_, K>) -> Result<(), Failed>
+    ensures sink { output.new.sink.ghost_name ≡ output.old.sink.ghost_name }
+    ensures ok { OnOk result
+        (TellsOf machine.now rings_text (told output.old) (told output.new)) }
+    ensures err { OnErr result
+        (FailsOf machine.now rings_text (told output.old) (told output.new)) }
+    ensures count { K.faults output.old.sink.now ≤ K.faults output.new.sink.now }
 {
-    for t in 0..threads {
-        output.line.clear();
-        add_ring(&mut output.line, t);
-        output.put(sink)?;
+    for t in 0..machine.board().limits.threads {
+        add_ring(&mut output.writer.gathered, t, 0, 0, 0, 0xff, 0);
+        output.writer.settle(output.sink)?;
     }
+    Ok(())
+}
+
+/// Puts the first line.
+fn put_end<K: Sink>(machine: &Machine, output: &mut Output<'_, K>) -> Result<(), Failed>
+    ensures sink { output.new.sink.ghost_name ≡ output.old.sink.ghost_name }
+    ensures ok { OnOk result
+        (TellsOf machine.now first_text (told output.old) (told output.new)) }
+    ensures err { OnErr result
+        (FailsOf machine.now first_text (told output.old) (told output.new)) }
+    ensures count { K.faults output.old.sink.now ≤ K.faults output.new.sink.now }
+{
+    add_end(&mut output.writer.gathered, machine.count());
+    output.writer.settle(output.sink)?;
+    Ok(())
+}
+
+/// Puts the last lines: what is on its way.
+fn put_last<K: Sink>(machine: &Machine, output: &mut Output<'_, K>) -> Result<(), Failed>
+    ensures sink { output.new.sink.ghost_name ≡ output.old.sink.ghost_name }
+    ensures ok { OnOk result
+        (TellsOf machine.now last_text (told output.old) (told output.new)) }
+    ensures err { OnErr result
+        (FailsOf machine.now last_text (told output.old) (told output.new)) }
+    ensures count { K.faults output.old.sink.now ≤ K.faults output.new.sink.now }
+{
+    let text = &mut output.writer.gathered;
+    add_flight(text, machine.flight() as u64);
+    add_notices(text, machine.notices());
+    add_done(text);
+    output.writer.settle(output.sink)?;
     Ok(())
 }
 
 /// Puts the report.
-pub fn put_report<K: Sink>(
-    machine: &Machine,
-    output: &mut Output,
-    sink: &mut K,
-) -> Result<(), Failed>
-    ensures ok { OnOk result ((h : List Entry) → StandsFor machine.now (start machine.now.tables.board) h →
-        Puts output.old.writer (K.held sink.old) output.new.writer (K.held sink.new) (report_text (start machine.now.tables.board) h)) }
-    ensures err { OnErr result ((h : List Entry) → StandsFor machine.now (start machine.now.tables.board) h →
-        AppendsPrefix (K.held sink.old) (K.held sink.new) (output.old.writer ++ report_text (start machine.now.tables.board) h)) }
-    ensures failed { OnErr result (HasRisen (K.faults sink.old) (K.faults sink.new)) }
-    ensures count { K.faults sink.old ≤ K.faults sink.new }
+pub fn put_report<K: Sink>(machine: &Machine, output: &mut Output<'_, K>) -> Result<(), Failed>
+    ensures sink { output.new.sink.ghost_name ≡ output.old.sink.ghost_name }
+    ensures ok { OnOk result
+        (TellsOf machine.now report_text (told output.old) (told output.new)) }
+    ensures err { OnErr result
+        (FailsOf machine.now report_text (told output.old) (told output.new)) }
+    ensures count { K.faults output.old.sink.now ≤ K.faults output.new.sink.now }
 {
-    output.line.clear();
-    add_end(&mut output.line, machine.count());
-    output.put(sink)?;
-    put_sources(machine, output, sink)?;
-    put_queues(machine, output, sink)?;
-    put_processors(machine, output, sink)?;
-    put_rings(machine.board().limits.threads, output, sink)?;
-    output.line.clear();
-    add_last(&mut output.line, machine.flight(), machine.notices());
-    output.put(sink)?;
-    Ok(())
+    put_end(machine, output)?;
+    put_sources(machine, output)?;
+    put_queues(machine, output)?;
+    put_processors(machine, output)?;
+    put_rings(machine, output)?;
+    put_last(machine, output)
 }

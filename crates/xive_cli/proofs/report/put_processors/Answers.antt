@@ -1,37 +1,26 @@
-use Rattle.std.proofs.Common.{◌<◌, ◌++◌, arith, subst}
-use Rattle.xv_io.specs.Faults.{AppendsPrefix}
-use Rattle.xv_io.specs.Gathered.{Puts}
+use Rattle.std.proofs.Common.{◌<◌, subst, arith}
 use Rattle.xv_model.specs.declared.board.Board.{Board}
-use Rattle.xv_model.specs.Boards.{IsPlain}
-use Rattle.xv_model.specs.Start.{start}
-use Rattle.xv_model.specs.Text.{saved_line, processor_line}
-use Rattle.xive_cli.proofs.Reports.{line_put, one_more_text, processor_is}
-use Rattle.xive_cli.proofs.Prefixes.{on_err_anyway, line_prefix, texts_prefix}
+use Rattle.xv_model.specs.board.Boards.{IsPlain}
+use Rattle.account.specs.Account.{processor_line_of}
+use Rattle.xive_cli.specs.Output.{told}
+use Rattle.xive_cli.proofs.Telling.{on_err_anyway}
+use Rattle.xive_cli.proofs.Printed.{one_told, one_failed, saved_line}
 use Rattle.xive_cli.proofs.report.put_processors.Goals as goal
+
+pub returns-in_err-settle-clause-err : goal.returns-in_err-settle-clause-err
+returns-in_err-settle-clause-err g c =
+    let e = c.in_err-settle.ensures {u = tt} in
+    let P : Board → Type 0 = λ b. c.loop-v.v < b.limits.processors in
+    on_err_anyway _ (one_failed c.args.machine.now (λ z h. processor_line_of z) c.loop-v.v _ (told c.args.output.now) (told c.loop-v.output) _ c.add_processor.new.text.items _
+    (subst P c.board.ensures.value c.loop-v-test.true) c.loop-v.invariant.count c.loop-v.invariant.tells
+    (λ h st. saved_line c.args.machine.now.tables.board c.loop-v.v (subst IsPlain c.board.ensures.value c.board.ensures.plain)) c.add_processor.ensures.items e.err e.failed e.lost)
 
 pub loop-v-preserved : goal.loop-v-preserved
 loop-v-preserved g c =
-    let e = c.in_ok-put.ensures {u = tt} in
-    let b = c.args.machine.now.tables.board in
+    let e = c.in_ok-settle.ensures {u = tt} in
     record {
-      puts =
-          one_more_text (processor_line (start b)) c.loop-v.v c.args.output.now.writer c.loop-v.output.writer c.put.new.self.writer (g.K.Sink.held c.args.sink.now) (g.K.Sink.held c.loop-v.sink) (g.K.Sink.held c.put.new.sink)
-          c.loop-v.invariant.puts
-          (subst (Puts c.loop-v.output.writer (g.K.Sink.held c.loop-v.sink) c.put.new.self.writer (g.K.Sink.held c.put.new.sink))
-          (processor_is b c.loop-v.v (subst (λ (b : Board). IsPlain b) c.board.ensures.value c.board.ensures.plain))
-          (line_put c.loop-v.output.writer c.put.new.self.writer (g.K.Sink.held c.loop-v.sink) (g.K.Sink.held c.put.new.sink) c.clear.new.self.items c.add_saved.new.line.items (saved_line c.loop-v.v) c.clear.ensures c.add_saved.ensures e.ok));
-      count = omega (arith, e.count);
+      tells = one_told c.args.machine.now (λ z h. processor_line_of z) c.loop-v.v (told c.args.output.now) (told c.loop-v.output) (record { gathered = c.settle.new.self.gathered.items; held = g.K.Sink.held c.settle.new.sink; faults = g.K.Sink.faults c.settle.new.sink }) c.add_processor.new.text.items _ c.loop-v.invariant.tells
+          (λ h st. saved_line c.args.machine.now.tables.board c.loop-v.v (subst IsPlain c.board.ensures.value c.board.ensures.plain)) c.add_processor.ensures.items e.ok;
+      sink = c.loop-v.invariant.sink;
+      count = omega (arith, c.loop-v.invariant.count, c.settle.ensures.count);
     }
-
-pub returns-in_err-put-clause-err : goal.returns-in_err-put-clause-err
-returns-in_err-put-clause-err g c = on_err_anyway c.from_residual.result (
-    let b = c.args.machine.now.tables.board in
-    let v = c.loop-v.v in
-    let k1 = g.K.Sink.held c.loop-v.sink in
-    let k2 = g.K.Sink.held c.put.new.sink in
-    let low = subst (λ (b : Board). v < b.limits.processors) c.board.ensures.value c.loop-v-test.true in
-    texts_prefix (processor_line (start b)) v b.limits.processors c.args.output.now.writer c.loop-v.output.writer (g.K.Sink.held c.args.sink.now) k1 k2 low
-    c.loop-v.invariant.puts
-    (subst (λ t. AppendsPrefix k1 k2 (c.loop-v.output.writer ++ t))
-    (processor_is b v (subst (λ (b : Board). IsPlain b) c.board.ensures.value c.board.ensures.plain))
-    (line_prefix c.loop-v.output.writer k1 k2 c.clear.new.self.items c.add_saved.new.line.items (saved_line v) c.clear.ensures c.add_saved.ensures (c.in_err-put.ensures {u = tt}).err)))

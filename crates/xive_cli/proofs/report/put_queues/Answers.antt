@@ -1,38 +1,29 @@
-use Rattle.std.proofs.Common.{◌<◌, ◌*◌, ◌++◌, arith, subst}
-use Rattle.xv_io.specs.Faults.{AppendsPrefix}
-use Rattle.xv_io.specs.Gathered.{Puts}
+use Rattle.std.proofs.Common.{◌<◌, ap, subst, arith}
 use Rattle.xv_model.specs.declared.board.Board.{Board}
-use Rattle.xv_model.specs.Start.{start}
-use Rattle.xv_model.specs.Text.{end_text, queue_line}
-use Rattle.xive_cli.proofs.Reports.{line_put, one_more_text, queue_is}
-use Rattle.xive_cli.proofs.Prefixes.{on_err_anyway, line_prefix, texts_prefix}
+use Rattle.std.proofs.Common.{◌*◌}
+use Rattle.xv_model.specs.account.Start.{start}
+use Rattle.machine.specs.declared.views.QueueView.{QueueView}
+use Rattle.account.specs.text.Report.{queue_line}
+use Rattle.account.specs.Account.{queue_line_of}
+use Rattle.xive_cli.specs.Output.{told}
+use Rattle.xive_cli.proofs.Telling.{on_err_anyway}
+use Rattle.xive_cli.proofs.Printed.{one_told, one_failed}
 use Rattle.xive_cli.proofs.report.put_queues.Goals as goal
+
+pub returns-in_err-settle-clause-err : goal.returns-in_err-settle-clause-err
+returns-in_err-settle-clause-err g c =
+    let e = c.in_err-settle.ensures {u = tt} in
+    let P : Board → Type 0 = λ b. c.loop-e.e < 8 * b.limits.processors in
+    on_err_anyway _ (one_failed c.args.machine.now queue_line_of c.loop-e.e _ (told c.args.output.now) (told c.loop-e.output) _ c.add_queue.new.text.items _
+    (subst P c.board.ensures.value c.loop-e-test.true) c.loop-e.invariant.count c.loop-e.invariant.tells
+    (λ h st. ap (λ (q : QueueView). queue_line c.loop-e.e q.config.flags.0 q.written q.taken q.esn q.ese) (c.queue-queue.ensures.value (start c.args.machine.now.tables.board) h st)) c.add_queue.ensures.items e.err e.failed e.lost)
 
 pub loop-e-preserved : goal.loop-e-preserved
 loop-e-preserved g c =
-    let e = c.in_ok-put.ensures {u = tt} in
-    let b = c.args.machine.now.tables.board in
-    let end = c.queue.result.now in
+    let e = c.in_ok-settle.ensures {u = tt} in
     record {
-      puts = λ h st.
-          one_more_text (queue_line (start b) h) c.loop-e.e c.args.output.now.writer c.loop-e.output.writer c.put.new.self.writer (g.K.Sink.held c.args.sink.now) (g.K.Sink.held c.loop-e.sink) (g.K.Sink.held c.put.new.sink)
-          (c.loop-e.invariant.puts h st)
-          (subst (Puts c.loop-e.output.writer (g.K.Sink.held c.loop-e.sink) c.put.new.self.writer (g.K.Sink.held c.put.new.sink))
-          (queue_is (start b) h c.loop-e.e end (c.queue.ensures.value (start b) h st))
-          (line_put c.loop-e.output.writer c.put.new.self.writer (g.K.Sink.held c.loop-e.sink) (g.K.Sink.held c.put.new.sink) c.clear.new.self.items c.add_end_queue.new.line.items (end_text c.loop-e.e end.config end.written end.taken end.esn end.ese) c.clear.ensures c.add_end_queue.ensures.items e.ok));
-      count = omega (arith, e.count);
+      tells = one_told c.args.machine.now queue_line_of c.loop-e.e (told c.args.output.now) (told c.loop-e.output) (record { gathered = c.settle.new.self.gathered.items; held = g.K.Sink.held c.settle.new.sink; faults = g.K.Sink.faults c.settle.new.sink }) c.add_queue.new.text.items _ c.loop-e.invariant.tells
+          (λ h st. ap (λ (q : QueueView). queue_line c.loop-e.e q.config.flags.0 q.written q.taken q.esn q.ese) (c.queue-queue.ensures.value (start c.args.machine.now.tables.board) h st)) c.add_queue.ensures.items e.ok;
+      sink = c.loop-e.invariant.sink;
+      count = omega (arith, c.loop-e.invariant.count, c.settle.ensures.count);
     }
-
-pub returns-in_err-put-clause-err : goal.returns-in_err-put-clause-err
-returns-in_err-put-clause-err g c = on_err_anyway c.from_residual.result (λ h st.
-    let b = c.args.machine.now.tables.board in
-    let e = c.loop-e.e in
-    let k1 = g.K.Sink.held c.loop-e.sink in
-    let k2 = g.K.Sink.held c.put.new.sink in
-    let low = subst (λ (b : Board). e < 8 * b.limits.processors) c.board.ensures.value c.loop-e-test.true in
-    let end = c.queue.result.now in
-    texts_prefix (queue_line (start b) h) e (8 * b.limits.processors) c.args.output.now.writer c.loop-e.output.writer (g.K.Sink.held c.args.sink.now) k1 k2 low
-    (c.loop-e.invariant.puts h st)
-    (subst (λ v. AppendsPrefix k1 k2 (c.loop-e.output.writer ++ v))
-    (queue_is (start b) h e end (c.queue.ensures.value (start b) h st))
-    (line_prefix c.loop-e.output.writer k1 k2 c.clear.new.self.items c.add_end_queue.new.line.items (end_text e end.config end.written end.taken end.esn end.ese) c.clear.ensures c.add_end_queue.ensures.items (c.in_err-put.ensures {u = tt}).err)))

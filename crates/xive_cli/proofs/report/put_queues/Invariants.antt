@@ -1,14 +1,12 @@
-use Rattle.std.proofs.Common.{◌≤◌, List}
-use Rattle.xv_io.specs.Gathered.{Puts}
-use Rattle.xv_model.specs.declared.entries.Entry.{Entry}
-use Rattle.xv_model.specs.Start.{start}
-use Rattle.xv_model.specs.Text.{queue_line, texts_below}
-use Rattle.xive_cli.specs.Standing.{StandsFor}
+use Rattle.std.proofs.Common.{◌≡◌, ◌≤◌}
+use Rattle.account.specs.Account.{texts_below, queue_line_of}
+use Rattle.xive_cli.specs.Output.{told}
+use Rattle.xive_cli.specs.Report.{TellsOf}
 use Rattle.xive_cli.proofs.report.put_queues.Given as goal
 
 abbrev pub invariant-loop-e : goal.invariant-loop-e
 invariant-loop-e g l = record {
-  puts : (h : List Entry) → StandsFor l.machine (start l.machine.tables.board) h →
-      Puts l.fn.output.writer (g.K.Sink.held l.fn.sink) l.output.writer (g.K.Sink.held l.sink) (texts_below (queue_line (start l.machine.tables.board) h) l.e);
-  count : g.K.Sink.faults l.fn.sink ≤ g.K.Sink.faults l.sink;
+  tells : TellsOf l.machine (λ z h. texts_below (queue_line_of z h) l.e) (told l.fn.output) (told l.output);
+  sink : l.output.sink.ghost_name ≡ l.fn.output.sink.ghost_name;
+  count : g.K.Sink.faults l.fn.output.sink.now ≤ g.K.Sink.faults l.output.sink.now;
 }

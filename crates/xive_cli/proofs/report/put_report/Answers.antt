@@ -1,53 +1,71 @@
-use Rattle.std.proofs.Common.{[], ◌∷◌, ◌++◌, subst}
-use Rattle.xv_io.specs.Faults.{AppendsPrefix}
-use Rattle.xv_io.specs.Gathered.{Puts}
-use Rattle.xv_io.proofs.Puts.{puts_both}
-use Rattle.xv_model.specs.Start.{start}
-use Rattle.xv_model.specs.Text.{end_line, next_index}
-use Rattle.xive_cli.proofs.Reports.{line_put, end_is, rings_are, last_is, sources_text, queues_text, processors_text, rings_text, last_text}
-use Rattle.xive_cli.proofs.Prefixes.{on_err_anyway, line_prefix, prefix_joined, part_failed}
+use Rattle.std.proofs.Common.{◌++◌, length, sym, subst, arith}
+use Rattle.xv_model.specs.account.Start.{start}
+use Rattle.xv_model.specs.source.Notices.{all_outstanding}
+use Rattle.xv_model.specs.route.Flight.{flight}
+use Rattle.account.specs.text.Report.{flight_line, notices_line, done_line}
+use Rattle.xive_cli.specs.Output.{Tells, Fails, told}
+use Rattle.xive_cli.specs.Report.{TellsOf, FailsOf, first_text, sources_text, queues_text, processors_text, rings_text, last_text}
+use Rattle.xive_cli.proofs.Telling.{on_err_anyway}
+use Rattle.xive_cli.proofs.Printed.{tells_parts, fails_parts, fails_more_parts, last_parts, on_ok_then, on_err_then}
 use Rattle.xive_cli.proofs.report.put_report.Goals as goal
 
-pub returns-clause-ok : goal.returns-clause-ok
-returns-clause-ok g c = λ h st.
-    let z = start c.args.machine.now.tables.board in
-    let end = subst (Puts _ _ _ _) (end_is c.args.machine.now z h c.count.result st c.count.ensures) (line_put _ _ _ _ _ _ _ c.clear.ensures c.add_end.ensures (c.in_ok-put.ensures {u = tt}).ok) in
-    let rings = subst (Puts _ _ _ _) (rings_are c.board.ensures.value) (c.in_ok-put_rings.ensures {u = tt}).ok in
-    let last = subst (Puts _ _ _ _) (last_is c.args.machine.now z h c.flight.result c.notices.result st (c.flight.ensures.value z h st) c.notices.ensures) (line_put _ _ _ _ _ _ _ c.clear-2.ensures c.add_last.ensures (c.in_ok-put-2.ensures {u = tt}).ok) in
-    puts_both _ _ _ _ _ _ _ _ (puts_both _ _ _ _ _ _ _ _ (puts_both _ _ _ _ _ _ _ _ (puts_both _ _ _ _ _ _ _ _ (puts_both _ _ _ _ _ _ _ _ end ((c.in_ok-put_sources.ensures {u = tt}).ok h st)) ((c.in_ok-put_queues.ensures {u = tt}).ok h st)) (c.in_ok-put_processors.ensures {u = tt}).ok) rings) last
-
-pub returns-in_err-put-clause-err : goal.returns-in_err-put-clause-err
-returns-in_err-put-clause-err g c = on_err_anyway c.from_residual.result (λ h st.
-    let z = start c.args.machine.now.tables.board in
-    prefix_joined _ _ _ (end_line (next_index z h)) (sources_text z h ∷ queues_text z h ∷ processors_text z ∷ rings_text z ∷ last_text z h ∷ []) (subst (λ t. AppendsPrefix (g.K.Sink.held c.args.sink.now) (g.K.Sink.held c.put.new.sink) (c.args.output.now.writer ++ t)) (end_is c.args.machine.now z h c.count.result st c.count.ensures) (line_prefix c.args.output.now.writer (g.K.Sink.held c.args.sink.now) (g.K.Sink.held c.put.new.sink) _ _ _ c.clear.ensures c.add_end.ensures (c.in_err-put.ensures {u = tt}).err)))
+pub returns-in_err-put_end-clause-err : goal.returns-in_err-put_end-clause-err
+returns-in_err-put_end-clause-err g c =
+    let f1 = (c.in_err-put_end.ensures {u = tt}).err in
+    on_err_anyway _ (fails_more_parts c.args.machine.now (λ z h. first_text z h ++ sources_text z h ++ queues_text z h ++ processors_text z h ++ rings_text z h ++ flight_line (length (flight z h)) ++ notices_line (all_outstanding z h)) (λ z h. done_line) (told c.args.output.now) _ (fails_more_parts c.args.machine.now (λ z h. first_text z h ++ sources_text z h ++ queues_text z h ++ processors_text z h ++ rings_text z h ++ flight_line (length (flight z h))) (λ z h. notices_line (all_outstanding z h)) (told c.args.output.now) _ (fails_more_parts c.args.machine.now (λ z h. first_text z h ++ sources_text z h ++ queues_text z h ++ processors_text z h ++ rings_text z h) (λ z h. flight_line (length (flight z h))) (told c.args.output.now) _ (fails_more_parts c.args.machine.now (λ z h. first_text z h ++ sources_text z h ++ queues_text z h ++ processors_text z h) rings_text (told c.args.output.now) _ (fails_more_parts c.args.machine.now (λ z h. first_text z h ++ sources_text z h ++ queues_text z h) processors_text (told c.args.output.now) _ (fails_more_parts c.args.machine.now (λ z h. first_text z h ++ sources_text z h) queues_text (told c.args.output.now) _ (fails_more_parts c.args.machine.now first_text sources_text (told c.args.output.now) _ (f1))))))))
 
 pub returns-in_err-put_sources-clause-err : goal.returns-in_err-put_sources-clause-err
-returns-in_err-put_sources-clause-err g c = on_err_anyway c.from_residual-in_err-put_sources.result (λ h st.
-    let z = start c.args.machine.now.tables.board in
-    let end = subst (Puts _ _ _ _) (end_is c.args.machine.now z h c.count.result st c.count.ensures) (line_put _ _ _ _ _ _ _ c.clear.ensures c.add_end.ensures (c.in_ok-put.ensures {u = tt}).ok) in
-    part_failed _ _ _ _ _ _ (sources_text z h) (queues_text z h ∷ processors_text z ∷ rings_text z ∷ last_text z h ∷ []) end ((c.in_err-put_sources.ensures {u = tt}).err h st))
+returns-in_err-put_sources-clause-err g c =
+    let t1 : TellsOf c.args.machine.now first_text (told c.args.output.now) (told c.put_end.new.output) = (c.in_ok-put_end.ensures {u = tt}).ok in
+    let f2 = fails_parts c.args.machine.now first_text sources_text (told c.args.output.now) (told c.put_end.new.output) _ (omega (arith, c.put_end.ensures.count)) t1 (c.in_err-put_sources.ensures {u = tt}).err in
+    on_err_anyway _ (fails_more_parts c.args.machine.now (λ z h. first_text z h ++ sources_text z h ++ queues_text z h ++ processors_text z h ++ rings_text z h ++ flight_line (length (flight z h)) ++ notices_line (all_outstanding z h)) (λ z h. done_line) (told c.args.output.now) _ (fails_more_parts c.args.machine.now (λ z h. first_text z h ++ sources_text z h ++ queues_text z h ++ processors_text z h ++ rings_text z h ++ flight_line (length (flight z h))) (λ z h. notices_line (all_outstanding z h)) (told c.args.output.now) _ (fails_more_parts c.args.machine.now (λ z h. first_text z h ++ sources_text z h ++ queues_text z h ++ processors_text z h ++ rings_text z h) (λ z h. flight_line (length (flight z h))) (told c.args.output.now) _ (fails_more_parts c.args.machine.now (λ z h. first_text z h ++ sources_text z h ++ queues_text z h ++ processors_text z h) rings_text (told c.args.output.now) _ (fails_more_parts c.args.machine.now (λ z h. first_text z h ++ sources_text z h ++ queues_text z h) processors_text (told c.args.output.now) _ (fails_more_parts c.args.machine.now (λ z h. first_text z h ++ sources_text z h) queues_text (told c.args.output.now) _ (f2)))))))
 
 pub returns-in_err-put_queues-clause-err : goal.returns-in_err-put_queues-clause-err
-returns-in_err-put_queues-clause-err g c = on_err_anyway c.from_residual-in_err-put_queues.result (λ h st.
-    let z = start c.args.machine.now.tables.board in
-    let end = subst (Puts _ _ _ _) (end_is c.args.machine.now z h c.count.result st c.count.ensures) (line_put _ _ _ _ _ _ _ c.clear.ensures c.add_end.ensures (c.in_ok-put.ensures {u = tt}).ok) in
-    part_failed _ _ _ _ _ _ (queues_text z h) (processors_text z ∷ rings_text z ∷ last_text z h ∷ []) (puts_both _ _ _ _ _ _ _ _ end ((c.in_ok-put_sources.ensures {u = tt}).ok h st)) ((c.in_err-put_queues.ensures {u = tt}).err h st))
+returns-in_err-put_queues-clause-err g c =
+    let t1 : TellsOf c.args.machine.now first_text (told c.args.output.now) (told c.put_end.new.output) = (c.in_ok-put_end.ensures {u = tt}).ok in
+    let t2 : TellsOf c.args.machine.now (λ z h. first_text z h ++ sources_text z h) (told c.args.output.now) (told c.put_sources.new.output) = tells_parts c.args.machine.now first_text sources_text (told c.args.output.now) (told c.put_end.new.output) (told c.put_sources.new.output) t1 (c.in_ok-put_sources.ensures {u = tt}).ok in
+    let f3 = fails_parts c.args.machine.now (λ z h. first_text z h ++ sources_text z h) queues_text (told c.args.output.now) (told c.put_sources.new.output) _ (omega (arith, c.put_end.ensures.count, c.put_sources.ensures.count)) t2 (c.in_err-put_queues.ensures {u = tt}).err in
+    on_err_anyway _ (fails_more_parts c.args.machine.now (λ z h. first_text z h ++ sources_text z h ++ queues_text z h ++ processors_text z h ++ rings_text z h ++ flight_line (length (flight z h)) ++ notices_line (all_outstanding z h)) (λ z h. done_line) (told c.args.output.now) _ (fails_more_parts c.args.machine.now (λ z h. first_text z h ++ sources_text z h ++ queues_text z h ++ processors_text z h ++ rings_text z h ++ flight_line (length (flight z h))) (λ z h. notices_line (all_outstanding z h)) (told c.args.output.now) _ (fails_more_parts c.args.machine.now (λ z h. first_text z h ++ sources_text z h ++ queues_text z h ++ processors_text z h ++ rings_text z h) (λ z h. flight_line (length (flight z h))) (told c.args.output.now) _ (fails_more_parts c.args.machine.now (λ z h. first_text z h ++ sources_text z h ++ queues_text z h ++ processors_text z h) rings_text (told c.args.output.now) _ (fails_more_parts c.args.machine.now (λ z h. first_text z h ++ sources_text z h ++ queues_text z h) processors_text (told c.args.output.now) _ (f3))))))
 
 pub returns-in_err-put_processors-clause-err : goal.returns-in_err-put_processors-clause-err
-returns-in_err-put_processors-clause-err g c = on_err_anyway c.from_residual-in_err-put_processors.result (λ h st.
-    let z = start c.args.machine.now.tables.board in
-    let end = subst (Puts _ _ _ _) (end_is c.args.machine.now z h c.count.result st c.count.ensures) (line_put _ _ _ _ _ _ _ c.clear.ensures c.add_end.ensures (c.in_ok-put.ensures {u = tt}).ok) in
-    part_failed _ _ _ _ _ _ (processors_text z) (rings_text z ∷ last_text z h ∷ []) (puts_both _ _ _ _ _ _ _ _ (puts_both _ _ _ _ _ _ _ _ end ((c.in_ok-put_sources.ensures {u = tt}).ok h st)) ((c.in_ok-put_queues.ensures {u = tt}).ok h st)) (c.in_err-put_processors.ensures {u = tt}).err)
+returns-in_err-put_processors-clause-err g c =
+    let t1 : TellsOf c.args.machine.now first_text (told c.args.output.now) (told c.put_end.new.output) = (c.in_ok-put_end.ensures {u = tt}).ok in
+    let t2 : TellsOf c.args.machine.now (λ z h. first_text z h ++ sources_text z h) (told c.args.output.now) (told c.put_sources.new.output) = tells_parts c.args.machine.now first_text sources_text (told c.args.output.now) (told c.put_end.new.output) (told c.put_sources.new.output) t1 (c.in_ok-put_sources.ensures {u = tt}).ok in
+    let t3 : TellsOf c.args.machine.now (λ z h. first_text z h ++ sources_text z h ++ queues_text z h) (told c.args.output.now) (told c.put_queues.new.output) = tells_parts c.args.machine.now (λ z h. first_text z h ++ sources_text z h) queues_text (told c.args.output.now) (told c.put_sources.new.output) (told c.put_queues.new.output) t2 (c.in_ok-put_queues.ensures {u = tt}).ok in
+    let f4 = fails_parts c.args.machine.now (λ z h. first_text z h ++ sources_text z h ++ queues_text z h) processors_text (told c.args.output.now) (told c.put_queues.new.output) _ (omega (arith, c.put_end.ensures.count, c.put_sources.ensures.count, c.put_queues.ensures.count)) t3 (c.in_err-put_processors.ensures {u = tt}).err in
+    on_err_anyway _ (fails_more_parts c.args.machine.now (λ z h. first_text z h ++ sources_text z h ++ queues_text z h ++ processors_text z h ++ rings_text z h ++ flight_line (length (flight z h)) ++ notices_line (all_outstanding z h)) (λ z h. done_line) (told c.args.output.now) _ (fails_more_parts c.args.machine.now (λ z h. first_text z h ++ sources_text z h ++ queues_text z h ++ processors_text z h ++ rings_text z h ++ flight_line (length (flight z h))) (λ z h. notices_line (all_outstanding z h)) (told c.args.output.now) _ (fails_more_parts c.args.machine.now (λ z h. first_text z h ++ sources_text z h ++ queues_text z h ++ processors_text z h ++ rings_text z h) (λ z h. flight_line (length (flight z h))) (told c.args.output.now) _ (fails_more_parts c.args.machine.now (λ z h. first_text z h ++ sources_text z h ++ queues_text z h ++ processors_text z h) rings_text (told c.args.output.now) _ (f4)))))
 
 pub returns-in_err-put_rings-clause-err : goal.returns-in_err-put_rings-clause-err
-returns-in_err-put_rings-clause-err g c = on_err_anyway c.from_residual-in_err-put_rings.result (λ h st.
-    let z = start c.args.machine.now.tables.board in
-    let end = subst (Puts _ _ _ _) (end_is c.args.machine.now z h c.count.result st c.count.ensures) (line_put _ _ _ _ _ _ _ c.clear.ensures c.add_end.ensures (c.in_ok-put.ensures {u = tt}).ok) in
-    part_failed _ _ _ _ _ _ (rings_text z) (last_text z h ∷ []) (puts_both _ _ _ _ _ _ _ _ (puts_both _ _ _ _ _ _ _ _ (puts_both _ _ _ _ _ _ _ _ end ((c.in_ok-put_sources.ensures {u = tt}).ok h st)) ((c.in_ok-put_queues.ensures {u = tt}).ok h st)) (c.in_ok-put_processors.ensures {u = tt}).ok) (subst (λ t. AppendsPrefix (g.K.Sink.held c.put_processors.new.sink) (g.K.Sink.held c.put_rings.new.sink) (c.put_processors.new.output.writer ++ t)) (rings_are c.board.ensures.value) (c.in_err-put_rings.ensures {u = tt}).err))
+returns-in_err-put_rings-clause-err g c =
+    let t1 : TellsOf c.args.machine.now first_text (told c.args.output.now) (told c.put_end.new.output) = (c.in_ok-put_end.ensures {u = tt}).ok in
+    let t2 : TellsOf c.args.machine.now (λ z h. first_text z h ++ sources_text z h) (told c.args.output.now) (told c.put_sources.new.output) = tells_parts c.args.machine.now first_text sources_text (told c.args.output.now) (told c.put_end.new.output) (told c.put_sources.new.output) t1 (c.in_ok-put_sources.ensures {u = tt}).ok in
+    let t3 : TellsOf c.args.machine.now (λ z h. first_text z h ++ sources_text z h ++ queues_text z h) (told c.args.output.now) (told c.put_queues.new.output) = tells_parts c.args.machine.now (λ z h. first_text z h ++ sources_text z h) queues_text (told c.args.output.now) (told c.put_sources.new.output) (told c.put_queues.new.output) t2 (c.in_ok-put_queues.ensures {u = tt}).ok in
+    let t4 : TellsOf c.args.machine.now (λ z h. first_text z h ++ sources_text z h ++ queues_text z h ++ processors_text z h) (told c.args.output.now) (told c.put_processors.new.output) = tells_parts c.args.machine.now (λ z h. first_text z h ++ sources_text z h ++ queues_text z h) processors_text (told c.args.output.now) (told c.put_queues.new.output) (told c.put_processors.new.output) t3 (c.in_ok-put_processors.ensures {u = tt}).ok in
+    let f5 = fails_parts c.args.machine.now (λ z h. first_text z h ++ sources_text z h ++ queues_text z h ++ processors_text z h) rings_text (told c.args.output.now) (told c.put_processors.new.output) _ (omega (arith, c.put_end.ensures.count, c.put_sources.ensures.count, c.put_queues.ensures.count, c.put_processors.ensures.count)) t4 (c.in_err-put_rings.ensures {u = tt}).err in
+    on_err_anyway _ (fails_more_parts c.args.machine.now (λ z h. first_text z h ++ sources_text z h ++ queues_text z h ++ processors_text z h ++ rings_text z h ++ flight_line (length (flight z h)) ++ notices_line (all_outstanding z h)) (λ z h. done_line) (told c.args.output.now) _ (fails_more_parts c.args.machine.now (λ z h. first_text z h ++ sources_text z h ++ queues_text z h ++ processors_text z h ++ rings_text z h ++ flight_line (length (flight z h))) (λ z h. notices_line (all_outstanding z h)) (told c.args.output.now) _ (fails_more_parts c.args.machine.now (λ z h. first_text z h ++ sources_text z h ++ queues_text z h ++ processors_text z h ++ rings_text z h) (λ z h. flight_line (length (flight z h))) (told c.args.output.now) _ (f5))))
 
-pub returns-in_err-put-2-clause-err : goal.returns-in_err-put-2-clause-err
-returns-in_err-put-2-clause-err g c = on_err_anyway c.from_residual-in_err-put-2.result (λ h st.
+pub returns-clause-ok : goal.returns-clause-ok
+returns-clause-ok g c =
+    let t1 : TellsOf c.args.machine.now first_text (told c.args.output.now) (told c.put_end.new.output) = (c.in_ok-put_end.ensures {u = tt}).ok in
+    let t2 : TellsOf c.args.machine.now (λ z h. first_text z h ++ sources_text z h) (told c.args.output.now) (told c.put_sources.new.output) = tells_parts c.args.machine.now first_text sources_text (told c.args.output.now) (told c.put_end.new.output) (told c.put_sources.new.output) t1 (c.in_ok-put_sources.ensures {u = tt}).ok in
+    let t3 : TellsOf c.args.machine.now (λ z h. first_text z h ++ sources_text z h ++ queues_text z h) (told c.args.output.now) (told c.put_queues.new.output) = tells_parts c.args.machine.now (λ z h. first_text z h ++ sources_text z h) queues_text (told c.args.output.now) (told c.put_sources.new.output) (told c.put_queues.new.output) t2 (c.in_ok-put_queues.ensures {u = tt}).ok in
+    let t4 : TellsOf c.args.machine.now (λ z h. first_text z h ++ sources_text z h ++ queues_text z h ++ processors_text z h) (told c.args.output.now) (told c.put_processors.new.output) = tells_parts c.args.machine.now (λ z h. first_text z h ++ sources_text z h ++ queues_text z h) processors_text (told c.args.output.now) (told c.put_queues.new.output) (told c.put_processors.new.output) t3 (c.in_ok-put_processors.ensures {u = tt}).ok in
+    let t5 : TellsOf c.args.machine.now (λ z h. first_text z h ++ sources_text z h ++ queues_text z h ++ processors_text z h ++ rings_text z h) (told c.args.output.now) (told c.put_rings.new.output) = tells_parts c.args.machine.now (λ z h. first_text z h ++ sources_text z h ++ queues_text z h ++ processors_text z h) rings_text (told c.args.output.now) (told c.put_processors.new.output) (told c.put_rings.new.output) t4 (c.in_ok-put_rings.ensures {u = tt}).ok in
+    on_ok_then c.put_last.result (λ (p : TellsOf c.args.machine.now last_text (told c.put_rings.new.output) (told c.put_last.new.output)) h st.
     let z = start c.args.machine.now.tables.board in
-    let end = subst (Puts _ _ _ _) (end_is c.args.machine.now z h c.count.result st c.count.ensures) (line_put _ _ _ _ _ _ _ c.clear.ensures c.add_end.ensures (c.in_ok-put.ensures {u = tt}).ok) in
-    let rings = subst (Puts _ _ _ _) (rings_are c.board.ensures.value) (c.in_ok-put_rings.ensures {u = tt}).ok in
-    part_failed _ _ _ _ _ _ (last_text z h) ([]) (puts_both _ _ _ _ _ _ _ _ (puts_both _ _ _ _ _ _ _ _ (puts_both _ _ _ _ _ _ _ _ (puts_both _ _ _ _ _ _ _ _ end ((c.in_ok-put_sources.ensures {u = tt}).ok h st)) ((c.in_ok-put_queues.ensures {u = tt}).ok h st)) (c.in_ok-put_processors.ensures {u = tt}).ok) rings) (subst (λ t. AppendsPrefix (g.K.Sink.held c.put_rings.new.sink) (g.K.Sink.held c.put-2.new.sink) (c.put_rings.new.output.writer ++ t)) (last_is c.args.machine.now z h c.flight.result c.notices.result st (c.flight.ensures.value z h st) c.notices.ensures) (line_prefix c.put_rings.new.output.writer (g.K.Sink.held c.put_rings.new.sink) (g.K.Sink.held c.put-2.new.sink) _ _ _ c.clear-2.ensures c.add_last.ensures (c.in_err-put-2.ensures {u = tt}).err)))
+    subst (λ t. Tells (told c.args.output.now) t (told c.put_last.new.output))
+    (sym (last_parts (first_text z h ++ sources_text z h ++ queues_text z h ++ processors_text z h ++ rings_text z h) (flight_line (length (flight z h))) (notices_line (all_outstanding z h)) done_line))
+    (tells_parts c.args.machine.now (λ z h. first_text z h ++ sources_text z h ++ queues_text z h ++ processors_text z h ++ rings_text z h) last_text (told c.args.output.now) (told c.put_rings.new.output) (told c.put_last.new.output) t5 p h st)) c.put_last.ensures.ok
+
+pub returns-clause-err : goal.returns-clause-err
+returns-clause-err g c =
+    let t1 : TellsOf c.args.machine.now first_text (told c.args.output.now) (told c.put_end.new.output) = (c.in_ok-put_end.ensures {u = tt}).ok in
+    let t2 : TellsOf c.args.machine.now (λ z h. first_text z h ++ sources_text z h) (told c.args.output.now) (told c.put_sources.new.output) = tells_parts c.args.machine.now first_text sources_text (told c.args.output.now) (told c.put_end.new.output) (told c.put_sources.new.output) t1 (c.in_ok-put_sources.ensures {u = tt}).ok in
+    let t3 : TellsOf c.args.machine.now (λ z h. first_text z h ++ sources_text z h ++ queues_text z h) (told c.args.output.now) (told c.put_queues.new.output) = tells_parts c.args.machine.now (λ z h. first_text z h ++ sources_text z h) queues_text (told c.args.output.now) (told c.put_sources.new.output) (told c.put_queues.new.output) t2 (c.in_ok-put_queues.ensures {u = tt}).ok in
+    let t4 : TellsOf c.args.machine.now (λ z h. first_text z h ++ sources_text z h ++ queues_text z h ++ processors_text z h) (told c.args.output.now) (told c.put_processors.new.output) = tells_parts c.args.machine.now (λ z h. first_text z h ++ sources_text z h ++ queues_text z h) processors_text (told c.args.output.now) (told c.put_queues.new.output) (told c.put_processors.new.output) t3 (c.in_ok-put_processors.ensures {u = tt}).ok in
+    let t5 : TellsOf c.args.machine.now (λ z h. first_text z h ++ sources_text z h ++ queues_text z h ++ processors_text z h ++ rings_text z h) (told c.args.output.now) (told c.put_rings.new.output) = tells_parts c.args.machine.now (λ z h. first_text z h ++ sources_text z h ++ queues_text z h ++ processors_text z h) rings_text (told c.args.output.now) (told c.put_processors.new.output) (told c.put_rings.new.output) t4 (c.in_ok-put_rings.ensures {u = tt}).ok in
+    on_err_then c.put_last.result (λ (p : FailsOf c.args.machine.now last_text (told c.put_rings.new.output) (told c.put_last.new.output)) h st.
+    let z = start c.args.machine.now.tables.board in
+    subst (λ t. Fails (told c.args.output.now) t (told c.put_last.new.output))
+    (sym (last_parts (first_text z h ++ sources_text z h ++ queues_text z h ++ processors_text z h ++ rings_text z h) (flight_line (length (flight z h))) (notices_line (all_outstanding z h)) done_line))
+    (fails_parts c.args.machine.now (λ z h. first_text z h ++ sources_text z h ++ queues_text z h ++ processors_text z h ++ rings_text z h) last_text (told c.args.output.now) (told c.put_rings.new.output) (told c.put_last.new.output) (omega (arith, c.put_end.ensures.count, c.put_sources.ensures.count, c.put_queues.ensures.count, c.put_processors.ensures.count, c.put_rings.ensures.count)) t5 p h st)) c.put_last.ensures.err

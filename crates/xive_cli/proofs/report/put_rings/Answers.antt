@@ -1,24 +1,25 @@
-use Rattle.std.proofs.Common.{arith}
-use Rattle.xv_model.specs.Text.{ring_line}
-use Rattle.xive_cli.proofs.Reports.{line_put, one_more_text}
-use Rattle.xive_cli.proofs.Prefixes.{on_err_anyway, line_prefix, texts_prefix}
+use Rattle.std.proofs.Common.{◌<◌, subst, refl, arith}
+use Rattle.xv_model.specs.declared.board.Board.{Board}
+use Rattle.account.specs.Account.{ring_line_of}
+use Rattle.xive_cli.specs.Output.{told}
+use Rattle.xive_cli.proofs.Telling.{on_err_anyway}
+use Rattle.xive_cli.proofs.Printed.{one_told, one_failed}
 use Rattle.xive_cli.proofs.report.put_rings.Goals as goal
+
+pub returns-in_err-settle-clause-err : goal.returns-in_err-settle-clause-err
+returns-in_err-settle-clause-err g c =
+    let e = c.in_err-settle.ensures {u = tt} in
+    let P : Board → Type 0 = λ b. c.loop-t.t < b.limits.threads in
+    on_err_anyway _ (one_failed c.args.machine.now (λ z h. ring_line_of) c.loop-t.t _ (told c.args.output.now) (told c.loop-t.output) _ c.add_ring.new.text.items _
+    (subst P c.board.ensures.value c.loop-t-test.true) c.loop-t.invariant.count c.loop-t.invariant.tells
+    (λ h st. refl) c.add_ring.ensures.items e.err e.failed e.lost)
 
 pub loop-t-preserved : goal.loop-t-preserved
 loop-t-preserved g c =
-    let e = c.in_ok-put.ensures {u = tt} in
+    let e = c.in_ok-settle.ensures {u = tt} in
     record {
-      puts =
-          one_more_text ring_line c.loop-t.t c.args.output.now.writer c.loop-t.output.writer c.put.new.self.writer (g.K.Sink.held c.args.sink.now) (g.K.Sink.held c.loop-t.sink) (g.K.Sink.held c.put.new.sink)
-          c.loop-t.invariant.puts
-          (line_put c.loop-t.output.writer c.put.new.self.writer (g.K.Sink.held c.loop-t.sink) (g.K.Sink.held c.put.new.sink) c.clear.new.self.items c.add_ring.new.line.items (ring_line c.loop-t.t) c.clear.ensures c.add_ring.ensures e.ok);
-      count = omega (arith, e.count);
+      tells = one_told c.args.machine.now (λ z h. ring_line_of) c.loop-t.t (told c.args.output.now) (told c.loop-t.output) (record { gathered = c.settle.new.self.gathered.items; held = g.K.Sink.held c.settle.new.sink; faults = g.K.Sink.faults c.settle.new.sink }) c.add_ring.new.text.items _ c.loop-t.invariant.tells
+          (λ h st. refl) c.add_ring.ensures.items e.ok;
+      sink = c.loop-t.invariant.sink;
+      count = omega (arith, c.loop-t.invariant.count, c.settle.ensures.count);
     }
-
-pub returns-in_err-put-clause-err : goal.returns-in_err-put-clause-err
-returns-in_err-put-clause-err g c = on_err_anyway c.from_residual.result (
-    let k1 = g.K.Sink.held c.loop-t.sink in
-    let k2 = g.K.Sink.held c.put.new.sink in
-    texts_prefix ring_line c.loop-t.t c.args.threads c.args.output.now.writer c.loop-t.output.writer (g.K.Sink.held c.args.sink.now) k1 k2 c.loop-t-test.true
-    c.loop-t.invariant.puts
-    (line_prefix c.loop-t.output.writer k1 k2 c.clear.new.self.items c.add_ring.new.line.items (ring_line c.loop-t.t) c.clear.ensures c.add_ring.ensures (c.in_err-put.ensures {u = tt}).err))

@@ -1,0 +1,116 @@
+use Rattle.std.proofs.Common.{refl, ◌∙◌, ap, subst, arith}
+use Rattle.xv_model.specs.declared.board.Board.{Board}
+use Rattle.account.specs.Account.{header_text}
+use Rattle.board_script.specs.declared.lines.Said.TheVariants as said
+use Rattle.board_script.specs.Script.{WorkLine}
+use Rattle.board_script.specs.Stage.{stage_after, board_after}
+use Rattle.board_script.proofs.WorkLines.{few}
+use Rattle.xive_cli.specs.declared.stop.Stop.TheVariants.{WriteFault}
+use Rattle.xive_cli.specs.Input.{unread}
+use Rattle.xive_cli.specs.Line.{burden_of}
+use Rattle.xive_cli.specs.Output.{told, Tells, Fails}
+use Rattle.xive_cli.specs.Reading.{Says}
+use Rattle.xive_cli.proofs.Stopping.{at_stop}
+use Rattle.xive_cli.proofs.Working.{whole_at, nothing_ran, nothing_more, line_ran, all_ran, header_failed, line_failed, work_stops}
+use Rattle.xive_cli.proofs.work.run_work.Goals as goal
+
+pub returns-in_err-put_header-clause-stop : goal.returns-in_err-put_header-clause-stop
+returns-in_err-put_header-clause-stop g c =
+    let b = c.args.input.now.parser.board in
+    let t = told c.args.output.now in
+    let t' = told c.put_header.new.output in
+    at_stop c.from_residual.result _ WriteFault c.from_residual.ensures.1
+    (header_failed b (unread c.args.input.now) t t' (whole_at c.args.input.now.parser b c.requires.stage refl)
+    (subst (λ (board : Board). Fails t (header_text board) t') (c.board.ensures.value ∙ c.requires.board) (c.in_err-put_header.ensures {u = tt}).err))
+
+pub lines-init : goal.lines-init
+lines-init g c =
+    let t = told c.args.output.now in
+    let t' = told c.put_header.new.output in
+    record {
+      runs = nothing_ran c.args.input.now.parser.board (unread c.args.input.now) c.args.machine.now t t' c.requires.stands
+          (subst (λ (board : Board). Tells t (header_text board) t') (c.board.ensures.value ∙ c.requires.board) (c.in_ok-put_header.ensures {u = tt}).ok);
+      stage = c.requires.stage;
+      board = refl;
+      machine = c.requires.board;
+      few = omega (arith, c.requires.count);
+      source = refl;
+      sink = c.put_header.ensures.sink;
+      source_count = omega arith;
+      sink_count = c.put_header.ensures.count;
+    }
+
+pub returns-in_err-actor-clause-stop : goal.returns-in_err-actor-clause-stop
+returns-in_err-actor-clause-stop g c =
+    let i = c.lines.invariant in
+    let stop = c.in_err-actor.field-0.0 in
+    let b = c.args.input.now.parser.board in
+    at_stop c.from_residual-in_err-actor.result _ stop c.from_residual-in_err-actor.ensures.1
+    (work_stops stop b (unread c.args.input.now) (unread c.lines.input) (unread c.read_line.new.input) c.lines.machine (told c.args.output.now) (told c.lines.output) (told c.read_line.new.output)
+    (whole_at c.lines.input.parser b i.stage i.board) i.source_count i.sink_count i.runs (c.in_err-actor.ensures {u = tt}).stop)
+
+pub lines-preserved-in-Continue-branch-4 : goal.lines-preserved-in-Continue-branch-4
+lines-preserved-in-Continue-branch-4 g c =
+    let i = c.lines.invariant in
+    let e = c.in_ok-actor.ensures {u = tt} in
+    let r = c.in_ok-run_line-in-Work.ensures {u = tt} in
+    let u = unread c.lines.input in
+    let v = unread c.read_line.new.input in
+    let w : WorkLine = record { actor = c.in-Work.actor; work = c.in-Work.work } in
+    let it = said.Work c.in-Work.actor c.in-Work.work in
+    let says = subst (λ it. Says u it v) c.in-Work.is e.says in
+    record {
+      runs = line_ran c.args.input.now.parser.board (unread c.args.input.now) u v c.lines.machine c.run_line.new.machine (told c.args.output.now) (told c.lines.output) (told c.read_line.new.output) (told c.run_line.new.output) w i.runs says.next e.tells r.runs;
+      stage = says.next.stage ∙ ap (λ s. stage_after s it) i.stage;
+      board = says.next.board ∙ ap (λ s. board_after s it c.lines.input.parser.board) i.stage ∙ i.board;
+      machine = c.run_line.ensures.board ∙ i.machine;
+      few = omega (arith, i.few, c.run_line.ensures.few, says.next.rises, few c.in-Work.work (burden_of c.lines.machine));
+      source = c.read_line.ensures.source ∙ i.source;
+      sink = c.run_line.ensures.sink ∙ c.read_line.ensures.sink ∙ i.sink;
+      source_count = omega (arith, i.source_count, c.read_line.ensures.source_count);
+      sink_count = omega (arith, i.sink_count, c.read_line.ensures.sink_count, c.run_line.ensures.sink_count);
+    }
+
+pub returns-in_err-run_line-in-Work-clause-stop : goal.returns-in_err-run_line-in-Work-clause-stop
+returns-in_err-run_line-in-Work-clause-stop g c =
+    let i = c.lines.invariant in
+    let e = c.in_ok-actor.ensures {u = tt} in
+    let u = unread c.lines.input in
+    let v = unread c.read_line.new.input in
+    let b = c.args.input.now.parser.board in
+    let w : WorkLine = record { actor = c.in-Work.actor; work = c.in-Work.work } in
+    let it = said.Work c.in-Work.actor c.in-Work.work in
+    let says = subst (λ it. Says u it v) c.in-Work.is e.says in
+    let stage = says.next.stage ∙ ap (λ s. stage_after s it) i.stage in
+    let board = says.next.board ∙ ap (λ s. board_after s it c.lines.input.parser.board) i.stage ∙ i.board in
+    at_stop c.from_residual-in_err-run_line-in-Work.result _ WriteFault c.from_residual-in_err-run_line-in-Work.ensures.1
+    (line_failed b (unread c.args.input.now) u v c.lines.machine (told c.args.output.now) (told c.lines.output) (told c.read_line.new.output) (told c.run_line.new.output) w
+    (whole_at c.read_line.new.input.parser b stage board) (omega (arith, i.sink_count, c.read_line.ensures.sink_count)) i.runs says.next e.tells (c.in_err-run_line-in-Work.ensures {u = tt}).fails)
+
+pub returns-in-End-clause-done : goal.returns-in-End-clause-done
+returns-in-End-clause-done g c =
+    let i = c.lines.invariant in
+    let e = c.in_ok-actor.ensures {u = tt} in
+    let u = unread c.lines.input in
+    let v = unread c.read_line.new.input in
+    let says = subst (λ it. Says u it v) c.in-End.is e.says in
+    all_ran c.args.input.now.parser.board (unread c.args.input.now) u v c.lines.machine (told c.args.output.now) (told c.lines.output) (told c.read_line.new.output) i.board i.runs says.next e.tells
+
+pub lines-preserved : goal.lines-preserved
+lines-preserved g c =
+    let i = c.lines.invariant in
+    let e = c.in_ok-actor.ensures {u = tt} in
+    let u = unread c.lines.input in
+    let v = unread c.read_line.new.input in
+    let says = subst (λ it. Says u it v) c.in-Nothing.is e.says in
+    record {
+      runs = nothing_more c.args.input.now.parser.board (unread c.args.input.now) u v c.lines.machine (told c.args.output.now) (told c.lines.output) (told c.read_line.new.output) i.runs says.next e.tells;
+      stage = says.next.stage ∙ ap (λ s. stage_after s said.Nothing) i.stage;
+      board = says.next.board ∙ ap (λ s. board_after s said.Nothing c.lines.input.parser.board) i.stage ∙ i.board;
+      machine = i.machine;
+      few = omega (arith, i.few, says.next.rises);
+      source = c.read_line.ensures.source ∙ i.source;
+      sink = c.read_line.ensures.sink ∙ i.sink;
+      source_count = omega (arith, i.source_count, c.read_line.ensures.source_count);
+      sink_count = omega (arith, i.sink_count, c.read_line.ensures.sink_count);
+    }

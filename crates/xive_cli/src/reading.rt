@@ -1,0 +1,102 @@
+//! The lines of an input: what the next one says, and when the source is asked for more.
+
+ghost use Rattle.std.specs.Prelude.{◌≡◌, ◌≤◌, [], IfOk, IfErr, OnOk, IfSome, IsNone};
+ghost use Rattle.xive_cli.specs.Input.{unread};
+ghost use Rattle.xive_cli.specs.Output.{told, Tells};
+ghost use Rattle.xive_cli.specs.Reading.{IsOpen, Says, Waits, CannotGoOn, Fills, Misses, StopsReading};
+
+use crate::input::Input;
+use crate::output::Output;
+use crate::stop::Stop;
+use board_script::lines::Said;
+use xv_base::limits::LONGEST_LINE;
+use xv_io::{Next, Sink, Source};
+
+/// What stands in for a line that is too long, of which the reader keeps nothing. The parser refuses each of
+/// them alike.
+const LONG_LINE: [u8; LONGEST_LINE + 1] = [b'#'; LONGEST_LINE + 1];
+
+/// Finds in what is read ahead what the next line says; none where more has to be read first.
+fn next_said<S: Source>(input: &mut Input<'_, S>) -> Result<Option<Said>, Stop>
+    requires { IsOpen input.old.parser.stage }
+    ensures source { input.new.source.ghost_name ≡ input.old.source.ghost_name }
+    ensures stays { input.new.source.now ≡ input.old.source.now }
+    ensures says { IfOk result (λ said. IfSome said (λ it.
+        Says (unread input.old) it (unread input.new))) }
+    ensures waits { IfOk result (λ said. IsNone said →
+        (unread input.new ≡ unread input.old) × Waits (unread input.old)) }
+    ensures stop { IfErr result (λ stop.
+        CannotGoOn stop (unread input.old) (unread input.new)) }
+{
+    match input.reader.next() {
+        Next::Line => Ok(Some(input.parser.read(input.reader.line())?)),
+        Next::Long => match input.parser.read(&LONG_LINE) {
+            Ok(_) => unreachable!(),
+            Err(fault) => Err(Stop::Refused(fault)),
+        },
+        Next::TooMany => Err(Stop::TooLong),
+        Next::End => {
+            input.parser.finish()?;
+            Ok(Some(Said::End))
+        }
+        Next::More => Ok(None),
+    }
+}
+
+/// Reads once. All that was told is written before: an answer never waits for the lines behind it.
+fn fill<S: Source, K: Sink>(input: &mut Input<'_, S>, told: &Output<'_, K>) -> Result<(), Stop>
+    requires told { told.now.writer.gathered.items ≡ [] }
+    requires waits { Waits (unread input.old) }
+    ensures source { input.new.source.ghost_name ≡ input.old.source.ghost_name }
+    ensures fills { OnOk result (Fills (unread input.old) (unread input.new)) }
+    ensures stop { IfErr result (λ stop.
+        (stop ≡ Stop.ReadFault) × Misses (unread input.old) (unread input.new)) }
+    ensures count { S.faults input.old.source.now ≤ S.faults input.new.source.now }
+{
+    match input.reader.fill(input.source) {
+        Ok(()) => Ok(()),
+        Err(_) => Err(Stop::ReadFault),
+    }
+}
+
+/// Writes all that is gathered, and then reads once.
+fn read_more<S: Source, K: Sink>(
+    input: &mut Input<'_, S>,
+    output: &mut Output<'_, K>,
+) -> Result<(), Stop>
+    requires { Waits (unread input.old) }
+    ensures source { input.new.source.ghost_name ≡ input.old.source.ghost_name }
+    ensures sink { output.new.sink.ghost_name ≡ output.old.sink.ghost_name }
+    ensures fills { OnOk result (Fills (unread input.old) (unread input.new)) }
+    ensures tells { OnOk result (Tells (told output.old) [] (told output.new)) }
+    ensures stop { IfErr result (λ stop. StopsReading stop
+        (unread input.old) (told output.old) (unread input.new) (told output.new)) }
+    ensures source_count { S.faults input.old.source.now ≤ S.faults input.new.source.now }
+    ensures sink_count { K.faults output.old.sink.now ≤ K.faults output.new.sink.now }
+{
+    output.writer.flush(output.sink)?;
+    fill(input, &*output)
+}
+
+/// Reads what the next line says. All that is gathered is written before the source is asked for more.
+pub fn read_line<S: Source, K: Sink>(
+    input: &mut Input<'_, S>,
+    output: &mut Output<'_, K>,
+) -> Result<Said, Stop>
+    requires { IsOpen input.old.parser.stage }
+    ensures source { input.new.source.ghost_name ≡ input.old.source.ghost_name }
+    ensures sink { output.new.sink.ghost_name ≡ output.old.sink.ghost_name }
+    ensures says { IfOk result (λ said. Says (unread input.old) said (unread input.new)) }
+    ensures tells { OnOk result (Tells (told output.old) [] (told output.new)) }
+    ensures stop { IfErr result (λ stop. StopsReading stop
+        (unread input.old) (told output.old) (unread input.new) (told output.new)) }
+    ensures source_count { S.faults input.old.source.now ≤ S.faults input.new.source.now }
+    ensures sink_count { K.faults output.old.sink.now ≤ K.faults output.new.sink.now }
+{
+    loop {
+        match next_said(input)? {
+            Some(said) => return Ok(said),
+            None => read_more(input, output)?,
+        }
+    }
+}
