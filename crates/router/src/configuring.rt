@@ -83,7 +83,7 @@ impl Tables {
     }
 
     /// The hypercall H_INT_SET_SOURCE_CONFIG (0x3ac; QEMU's hw/intc/spapr_xive.c,
-    /// h_int_set_source_config), by the registers R4 to R8: flags (1 masks, 2 sets the EISN), LISN,
+    /// h_int_set_source_config), by its arguments in order: flags (1 masks, 2 sets the EISN), LISN,
     /// target processor, priority (0xff masks, and forgets the END), and EISN, of which the low 31
     /// bits count. Its code is the first of these that holds: H_PARAMETER (-4) for another flag, H_P2
     /// (-55) for a LISN that isn't that of a source with a valid EAS, H_SUCCESS (0) for priority 0xff,

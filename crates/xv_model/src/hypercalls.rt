@@ -55,7 +55,7 @@ pub struct SetSourceConfig {
 }
 
 impl SetSourceConfig {
-    /// The arguments in the order of the registers R4 to R8.
+    /// The arguments in the order of the argument registers of a hypercall.
     pub fn from_args(args: &[u64; 5]) -> SetSourceConfig
         ensures { result ≡ source_config args.now }
     {

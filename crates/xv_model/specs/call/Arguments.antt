@@ -1,4 +1,4 @@
--- The arguments of hypercalls, as the registers R4 to R8 have them.
+-- The arguments of hypercalls, in the order of the argument registers.
 use Rattle.std.specs.Prelude.{ℕ, List, slice_index_or}
 use Rattle.xv_model.specs.declared.hypercalls.SetSourceConfig.{SetSourceConfig}
 
