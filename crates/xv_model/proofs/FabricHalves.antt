@@ -21,7 +21,8 @@ use Rattle.xv_model.specs.source.Notices.{forwards, routes, outstanding}
 use Rattle.xv_model.specs.end.Flags.{is_valid}
 use Rattle.xv_model.specs.source.Eas.{source_config_in, eas_by, eas}
 use Rattle.xv_model.specs.end.Descriptors.{configuration_in, config_at, config_by, end_config, since_config, until_config}
-use Rattle.xv_model.specs.end.EventStates.{first_state, ran_at, asks_state, esn, ese}
+use Rattle.xv_model.specs.end.EventStates.{first_state, ran_at, asks_state, load_in, load_at, load_by, esn, ese}
+use Rattle.xv_model.specs.end.Pages.{loaded, state_of, end_page_answer}
 use Rattle.xv_model.specs.end.Written.{wrote_in, payload_of, written, written_count}
 use Rattle.xv_model.specs.end.Reading.{taken_count}
 use Rattle.xv_model.specs.route.Flight.{origin_of, made_by, messages_by, flight}
@@ -58,6 +59,15 @@ no_origin b _ other = refl
 no_config_by : (b : Board) (e : ℕ) (x : Entry) → is_fabric b x.op ≡ false → config_by e x ≡ None
 no_config_by b e x other = ap (config_at e) (no_configuration b x.op x.outcome other)
 
+-- an operation that isn't the fabric's loads no END's page
+no_load : (b : Board) (o : Op) (u : Outcome) → is_fabric b o ≡ false → load_in o u ≡ None
+no_load b (op.EndEsb e page offset store) u other = cc
+no_load b _ u other = refl
+
+-- an entry that isn't the fabric's loads no END's page
+no_load_by : (b : Board) (page e : ℕ) (x : Entry) → is_fabric b x.op ≡ false → load_by page e x ≡ None
+no_load_by b page e x other = ap (load_at page e) (no_load b x.op x.outcome other)
+
 -- an entry that isn't the fabric's leaves the EAS of s
 pub eas-skips : (z : Start) (s : ℕ) (x : Entry) (h : List Entry) → is_fabric z.board x.op ≡ false → eas z (x ∷ h) s ≡ eas z h s
 eas-skips z s x h other = rw (no_source_config z.board x.op x.outcome other) refl
@@ -76,11 +86,11 @@ since_config-skips z e x h other = rw (no_config_by z.board e x other) refl
 
 -- an entry that isn't the fabric's leaves the state of notifications of e
 pub esn-skips : (z : Start) (e : ℕ) (x : Entry) (h : List Entry) → is_fabric z.board x.op ≡ false → esn z (x ∷ h) e ≡ esn z h e
-esn-skips z e x h other = rw (no_config_by z.board e x other, no_run z.board x.op x.outcome other) refl
+esn-skips z e x h other = rw (no_config_by z.board e x other, no_load_by z.board 0 e x other, no_run z.board x.op x.outcome other) refl
 
 -- an entry that isn't the fabric's leaves the state of escalations of e
 pub ese-skips : (z : Start) (e : ℕ) (x : Entry) (h : List Entry) → is_fabric z.board x.op ≡ false → ese z (x ∷ h) e ≡ ese z h e
-ese-skips z e x h other = rw (no_config_by z.board e x other) refl
+ese-skips z e x h other = rw (no_config_by z.board e x other, no_load_by z.board 1 e x other) refl
 
 -- an entry that isn't the fabric's leaves what was written for e
 pub written-skips : (z : Start) (e : ℕ) (x : Entry) (h : List Entry) → is_fabric z.board x.op ≡ false → written z (x ∷ h) e ≡ written z h e
@@ -131,16 +141,22 @@ since_config-half z e (x ∷ h) = since_config_more z e x h (is_fabric z.board x
 
 -- the state of notifications of e is that of the fabric's entries
 pub esn-half : (z : Start) (e : ℕ) (h : List Entry) → esn z (fabric_of z.board h) e ≡ esn z h e
-esn-half z e = half (λ x. is_fabric z.board x.op) (λ h. esn z h e) (λ x h so_far. λ i. option_map_or first_state (config_by e x) (if ran_at e (run_of x.op x.outcome) && asks_state (end_config-half z e h i) then (trigger_row (so_far i)).pair else so_far i)) (esn-skips z e)
+esn-half z e = half (λ x. is_fabric z.board x.op) (λ h. esn z h e) (λ x h so_far. λ i. option_map_or first_state (config_by e x) (option_map_or (λ new. new) (load_by 0 e x) (if ran_at e (run_of x.op x.outcome) && asks_state (end_config-half z e h i) then (trigger_row (so_far i)).pair else so_far i))) (esn-skips z e)
 
 -- the state of escalations of e is that of the fabric's entries
 pub ese-half : (z : Start) (e : ℕ) (h : List Entry) → ese z (fabric_of z.board h) e ≡ ese z h e
-ese-half z e = half (λ x. is_fabric z.board x.op) (λ h. ese z h e) (λ x h. ap (option_map_or first_state (config_by e x))) (ese-skips z e)
+ese-half z e = half (λ x. is_fabric z.board x.op) (λ h. ese z h e) (λ x h so_far. λ i. option_map_or first_state (config_by e x) (option_map_or (λ new. new) (load_by 1 e x) (so_far i))) (ese-skips z e)
 
 -- what an operation routes after the fabric's entries is what it routes after the account
 payload_of-half : (z : Start) (h : List Entry) (o : Op) → payload_of z (fabric_of z.board h) o ≡ payload_of z h o
 payload_of-half z h (op.Route s) = ap (λ a. a.eisn ∷ []) (eas-half z s h)
 payload_of-half z h _ = refl
+
+-- what an access to a page of e answers after the fabric's entries is what it answers after the account
+pub end_page_answer-half : (z : Start) (e page offset : ℕ) (store : Bool) (h : List Entry) → end_page_answer z (fabric_of z.board h) e page offset store ≡ end_page_answer z h e page offset store
+end_page_answer-half z e page offset store h =
+    λ i. if store then out.BadOffset
+    else (if is_valid (end_config-half z e h i) then loaded offset (if page == 0 then esn-half z e h i else ese-half z e h i) else out.NoEnd)
 
 -- what was written for e is what the fabric's entries wrote
 pub written-half : (z : Start) (e : ℕ) (h : List Entry) → written z (fabric_of z.board h) e ≡ written z h e
@@ -214,6 +230,7 @@ fabric_answer_half : (z : Start) (g h : List Entry) (o : Op) → not (is_quiet o
     answer_on z g o (part_beside o) ≡ answer_on z h o (part_beside o)
 fabric_answer_half z g h (op.Quiet s) is same none = cc
 fabric_answer_half z g h (op.Route s) is same none = route_half z g h s same (none s refl)
+fabric_answer_half z g h (op.EndEsb e page offset store) is same none = same_fabric z.board (λ f. end_page_answer z f e page offset store) g h (end_page_answer-half z e page offset store) same
 fabric_answer_half z g h (op.Hcall number args) is same none = ap out.Reply (same_fabric z.board (λ f. hcall_reply z f args) g h (hcall_reply-half z args) same)
 fabric_answer_half z g h _ is same none = refl
 

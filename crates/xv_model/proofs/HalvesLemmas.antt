@@ -11,7 +11,8 @@ use Rattle.xv_model.specs.account.Kinds.{WordAccess, access_of, is_at, is_word, 
 use Rattle.xv_model.specs.source.PqTable.{pq_row, flag_after}
 use Rattle.xv_model.specs.source.Pairs.{Change, change_in, touch_by, touch_at, touch_of, pq, asserted, old_in, old_pair}
 use Rattle.xv_model.specs.source.Notices.{forwards, route_in, routes}
-use Rattle.xv_model.specs.account.Legal.{is_level, answer_by, word_answer, legal}
+use Rattle.xv_model.specs.board.Boards.{is_level}
+use Rattle.xv_model.specs.account.Legal.{answer_by, word_answer, legal}
 use Rattle.xv_model.specs.account.Halves.{words_of, fabric_of}
 
 module _ {X R : Type 0} (p : X → Bool) (d : List X → R) (goes : (x : X) (h : List X) → d (filter p h) ≡ d h → d (x ∷ filter p h) ≡ d (x ∷ h)) (skips : (x : X) (h : List X) → p x ≡ false → d (x ∷ h) ≡ d h) where

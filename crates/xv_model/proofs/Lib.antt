@@ -7,6 +7,7 @@ pub mod MoreLines
 pub mod OneAccount
 pub mod RouteLaws
 pub mod SmallPairs
+pub mod SmallStates
 pub mod Sums
 pub mod Touches
 pub mod TriggerLaws

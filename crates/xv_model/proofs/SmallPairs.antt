@@ -11,11 +11,14 @@ use Rattle.xv_model.specs.declared.operations.PqOp.{PqOp}
 use Rattle.xv_model.specs.declared.operations.PqOp.TheVariants.{Trigger, Eoi, Get, Set, Raise, Lower, Init}
 use Rattle.xv_model.specs.declared.entries.Entry.{Entry}
 use Rattle.xv_model.specs.account.Start.{Start}
-use Rattle.xv_model.specs.account.Kinds.{WordAccess, access_of, page_op, load_op, store_op}
+use Rattle.xv_model.specs.account.Kinds.{WordAccess, access_of}
+use Rattle.xv_model.specs.source.Pages.{page_op, management_op, trigger_page_op, load_op, store_op}
+use Rattle.xv_model.specs.declared.pages.TheConstants.{ESB_OFFSETS, ESB_STORE_EOI, ESB_GET, ESB_SET_PQ, ESB_SET_STEP}
 use Rattle.xv_model.specs.source.PqTable.{pq_row}
 use Rattle.xv_model.specs.source.Pairs.{Touch, touch_of, touch_at, pq, asserted}
-use Rattle.xv_model.specs.board.Validity.{valid, valid_pq}
-use Rattle.xv_model.specs.account.Legal.{IsLegal, is_level}
+use Rattle.xv_model.specs.board.Boards.{is_level}
+use Rattle.xv_model.specs.board.Validity.{valid, has_op}
+use Rattle.xv_model.specs.account.Legal.{IsLegal}
 use Rattle.xv_model.proofs.Touches.{legal_touch, touch_is}
 
 -- a set is to a pair
@@ -23,15 +26,15 @@ abbrev pub SetsPair : PqOp → Type 0
 SetsPair (Set new) = new < 4
 SetsPair _ = Unit {0}
 
--- a valid operation on a pair sets a pair
-sets_valid : (o : PqOp) → valid_pq o ≡ true → SetsPair o
-sets_valid (Set new) e = grind (arith, nat_tests)
-sets_valid Trigger e = tt
-sets_valid Eoi e = tt
-sets_valid Get e = tt
-sets_valid Raise e = tt
-sets_valid Lower e = tt
-sets_valid (Init asserted) e = tt
+-- an operation that a source has sets a pair
+sets_valid : (level : Bool) (o : PqOp) → has_op level o ≡ true → SetsPair o
+sets_valid level (Set new) e = grind (arith, nat_tests)
+sets_valid level Trigger e = tt
+sets_valid level Eoi e = tt
+sets_valid level Get e = tt
+sets_valid level Raise e = tt
+sets_valid level Lower e = tt
+sets_valid level (Init asserted) e = tt
 
 -- an operation, where there is one, is a set to a pair at most
 abbrev SomeSetsPair : Option PqOp → Type 0
@@ -43,17 +46,24 @@ sets_if : (b : Bool) (m n : Option PqOp) → SomeSetsPair m → SomeSetsPair n �
 sets_if true m n v w = v
 sets_if false m n v w = w
 
--- a load of a management page sets a pair
-sets_load : (o : ℕ) → SomeSetsPair (load_op o)
-sets_load o = sets_if (nat_lt o 2048) _ _ tt (sets_if (nat_lt o 3072) _ _ tt (omega arith))
+-- and so does each choice of two operations
+sets_either : (b : Bool) (m n : PqOp) → SetsPair m → SetsPair n → SetsPair (if b then m else n)
+sets_either true m n v w = v
+sets_either false m n v w = w
+
+-- a load at an offset of a management page sets a pair
+pub sets_load : (o : ℕ) → o < ESB_OFFSETS → SetsPair (load_op o)
+sets_load o l = sets_either (nat_lt o ESB_GET) _ _ tt (sets_either (nat_lt o ESB_SET_PQ) _ _ tt (omega arith))
 
 -- a store to a management page sets a pair
-sets_store : (eoi : Bool) (o : ℕ) → SomeSetsPair (store_op eoi o)
-sets_store eoi o = sets_if (nat_lt o 1024) _ _ tt (sets_if (nat_lt o 2048) _ _ (sets_if eoi _ _ tt tt) (sets_if (nat_lt o 3072) _ _ tt (omega arith)))
+sets_store : (eoi : Bool) (o : ℕ) → o < ESB_OFFSETS → SomeSetsPair (store_op eoi o)
+sets_store eoi o l = sets_if (nat_lt o ESB_STORE_EOI) _ _ tt (sets_if (nat_lt o ESB_GET) _ _ (sets_if eoi _ _ tt tt) (sets_if (nat_lt o ESB_SET_PQ) _ _ tt (omega arith)))
 
 -- an access to a page of a source sets a pair
-sets_page : (b : Board) (page offset : ℕ) (store : Bool) → SomeSetsPair (page_op b page offset store)
-sets_page b page offset store = sets_if (b.two_pages && (page == 0)) _ _ (sets_if store _ _ tt tt) (sets_if store _ _ (sets_store b.store_eoi (offset % 4096)) (sets_load (offset % 4096)))
+sets_page : (two_pages eoi : Bool) (page offset : ℕ) (store : Bool) → SomeSetsPair (page_op two_pages eoi page offset store)
+sets_page two_pages eoi page offset store =
+    let below : offset % ESB_OFFSETS < ESB_OFFSETS = omega arith in
+    sets_if (two_pages && (page == 0)) (trigger_page_op store) (management_op eoi offset store) (sets_if store _ _ tt tt) (sets_if store _ _ (sets_store eoi (offset % ESB_OFFSETS) below) (sets_load (offset % ESB_OFFSETS) below))
 
 -- the access by an operation that sets a pair sets one
 sets_of : (s : ℕ) (m : Option PqOp) (a : WordAccess) → SomeSetsPair m → option_and_then (λ o. Some (record { source = s; op = o })) m ≡ Some a → SetsPair a.op
@@ -63,9 +73,9 @@ sets_of s None a w e = cc
 -- a valid operation on a source's word sets a pair
 pub sets_access : (b : Board) (o : Op) (a : WordAccess) → valid b o ≡ true → access_of b o ≡ Some a → SetsPair a.op
 sets_access b (op.Pq s o) a v e =
-    let w : SetsPair o = sets_valid o (and_parts (nat_lt s b.limits.sources) (valid_pq o) v).1 in
+    let w : SetsPair o = sets_valid (is_level b s) o (and_parts (nat_lt s b.limits.sources) (has_op (is_level b s) o) v).1 in
     let same : o ≡ a.op = cc in subst (λ q. SetsPair q) same w
-sets_access b (op.Esb s page offset store) a v e = sets_of s (page_op b page offset store) a (sets_page b page offset store) e
+sets_access b (op.Esb s page offset store) a v e = sets_of s (page_op b.two_pages b.store_eoi page offset store) a (sets_page b.two_pages b.store_eoi page offset store) e
 sets_access b _ a v e = cc
 
 -- a row of the table gives a pair

@@ -12,7 +12,8 @@ use Rattle.xv_model.specs.account.Kinds.{WordAccess, access_of, Part, Word, part
 use Rattle.xv_model.specs.source.PqTable.{Cell, pq_row}
 use Rattle.xv_model.specs.source.Pairs.{Touch, change_in, touch_by, touch_of, touch_at, pq, asserted}
 use Rattle.xv_model.specs.source.Notices.{forwards}
-use Rattle.xv_model.specs.account.Legal.{IsNext, is_level, answer_by, word_answer, answer_on}
+use Rattle.xv_model.specs.board.Boards.{is_level}
+use Rattle.xv_model.specs.account.Legal.{IsNext, answer_by, word_answer, answer_on}
 
 -- the touch follows a cell of the table, with the pair q and n forwards before it
 pub record FollowsCell (c : Cell) (q n : ℕ) (t : Touch) : Type 0 where

@@ -15,7 +15,8 @@ use Rattle.xv_model.specs.account.Kinds.{WordAccess, access_of}
 use Rattle.xv_model.specs.source.PqTable.{pq_row}
 use Rattle.xv_model.specs.source.Pairs.{Touch, change_in, touch_by, touch_at, touch_of, pq, asserted}
 use Rattle.xv_model.specs.source.Notices.{forwards}
-use Rattle.xv_model.specs.account.Legal.{IsLegal, IsNext, is_level, answer_by}
+use Rattle.xv_model.specs.board.Boards.{is_level}
+use Rattle.xv_model.specs.account.Legal.{IsLegal, IsNext, answer_by}
 use Rattle.xv_model.specs.laws.Triggers.{number_of, forward_numbers, down_from, is_trigger, is_eoi, ends_queue, is_access, is_forwarded, is_coalesced, is_ignored, is_spent, triggers, leaves_queue, NumberedInOrder, EachTriggerAccounted, CoalescedComesAgain}
 use Rattle.xv_model.proofs.OneAccount.{legal_before}
 use Rattle.xv_model.proofs.Touches.{cell_at, legal_touch, touch_is, word_outcome}

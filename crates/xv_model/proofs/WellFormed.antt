@@ -13,9 +13,14 @@ use Rattle.xv_model.specs.source.Pairs.{pq, asserted}
 use Rattle.xv_model.specs.source.Notices.{forwards, outstanding}
 use Rattle.xv_model.specs.route.Flight.{flight}
 use Rattle.xv_model.specs.route.Quiet.{messages_of}
-use Rattle.xv_model.specs.account.Legal.{IsLegal, IsNext, is_level, answer_by, cell_after, answer_on}
+use Rattle.xv_model.specs.board.Boards.{is_level}
+use Rattle.xv_model.specs.account.Legal.{IsLegal, IsNext, answer_by, cell_after, answer_on}
 use Rattle.xv_model.specs.account.Outcomes.{IsWellFormed}
+use Rattle.xv_model.specs.end.Flags.{is_valid}
+use Rattle.xv_model.specs.end.Descriptors.{end_config}
+use Rattle.xv_model.specs.end.Pages.{state_of}
 use Rattle.xv_model.proofs.SmallPairs.{SetsPair, sets_access, small_cell, pq-below}
+use Rattle.xv_model.proofs.SmallStates.{HasPairs, small_state, small_load, states-below}
 
 -- of two well-formed outcomes each choice is well-formed
 well_formed_if : (b : Bool) (m n : Outcome) → IsWellFormed m → IsWellFormed n → IsWellFormed (if b then m else n)
@@ -27,22 +32,26 @@ cell_well_formed : (c : Cell) (q n : ℕ) → q < 4 → c.pair < 4 → IsWellFor
 cell_well_formed c q n l m = well_formed_if c.forwards _ _ (well_formed_if (n == most_forwards) _ _ tt (l, m)) (l, m)
 
 -- an answer of an operation on no word is well-formed
-fabric_well_formed : (z : Start) (h : List Entry) (o : Op) → IsWellFormed (answer_on z h o (part_beside o))
-fabric_well_formed z h (op.Quiet s) = well_formed_if ((outstanding z h s == 0) && (messages_of (flight z h) s == 0)) _ _ tt tt
-fabric_well_formed z h (op.Route s) = well_formed_if (outstanding z h s == 0) _ _ tt (well_formed_if (length (flight z h) == most_messages) _ _ tt tt)
-fabric_well_formed z h (op.EndSet e c) = tt
-fabric_well_formed z h (op.Hcall number args) = refl
-fabric_well_formed z h _ = tt
+fabric_well_formed : (z : Start) (h : List Entry) (o : Op) → ((e : ℕ) → HasPairs z h e) → IsWellFormed (answer_on z h o (part_beside o))
+fabric_well_formed z h (op.Quiet s) w = well_formed_if ((outstanding z h s == 0) && (messages_of (flight z h) s == 0)) _ _ tt tt
+fabric_well_formed z h (op.Route s) w = well_formed_if (outstanding z h s == 0) _ _ tt (well_formed_if (length (flight z h) == most_messages) _ _ tt tt)
+fabric_well_formed z h (op.Esb s page offset store) w = well_formed_if store _ _ tt tt
+fabric_well_formed z h (op.EndEsb e page offset store) w =
+    let small = small_state z h e page (w e) in
+    well_formed_if store _ _ tt (well_formed_if (is_valid (end_config z h e)) _ _ (small, small_load offset (state_of z h e page) small) tt)
+fabric_well_formed z h (op.EndSet e c) w = tt
+fabric_well_formed z h (op.Hcall number args) w = refl
+fabric_well_formed z h _ w = tt
 
 -- the answer of an operation is well-formed, by whether it is an access
-well_formed_by : (z : Start) (h : List Entry) (o : Op) (m : Option WordAccess) → ((a : WordAccess) → m ≡ Some a → SetsPair a.op) → ((s : ℕ) → pq z h s < 4) → IsWellFormed (answer_on z h o (option_map_or Word m (part_beside o)))
-well_formed_by z h o None sets small = fabric_well_formed z h o
-well_formed_by z h o (Some a) sets small =
+well_formed_by : (z : Start) (h : List Entry) (o : Op) (m : Option WordAccess) → ((a : WordAccess) → m ≡ Some a → SetsPair a.op) → ((s : ℕ) → pq z h s < 4) → ((e : ℕ) → HasPairs z h e) → IsWellFormed (answer_on z h o (option_map_or Word m (part_beside o)))
+well_formed_by z h o None sets small states = fabric_well_formed z h o states
+well_formed_by z h o (Some a) sets small states =
     cell_well_formed (cell_after z h a) (pq z h a.source) (forwards z h a.source) (small a.source)
     (small_cell a.op (is_level z.board a.source) (asserted z h a.source) (pq z h a.source) (small a.source) (sets a refl))
 
 -- the outcome of the next entry of a legal account is well-formed
-pub legal_well_formed : (z : Start) (h : List Entry) (x : Entry) → IsLegal z h → ((s : ℕ) → z.pair s < 4) → IsNext z h x → IsWellFormed x.outcome
-legal_well_formed z h x l w n =
+pub legal_well_formed : (z : Start) (h : List Entry) (x : Entry) → IsLegal z h → ((s : ℕ) → z.pair s < 4) → ((e : ℕ) → (z.esn e < 4) × (z.ese e < 4)) → IsNext z h x → IsWellFormed x.outcome
+legal_well_formed z h x l w states n =
     subst IsWellFormed (sym n.outcome)
-    (well_formed_by z h x.op (access_of z.board x.op) (λ a e. sets_access z.board x.op a n.valid_op e) (λ s. pq-below z h s l (w s)))
+    (well_formed_by z h x.op (access_of z.board x.op) (λ a e. sets_access z.board x.op a n.valid_op e) (λ s. pq-below z h s l (w s)) (states-below z h l states))

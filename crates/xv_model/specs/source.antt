@@ -1,4 +1,5 @@
 pub mod PqTable
+pub mod Pages
 pub mod Pairs
 pub mod Notices
 pub mod Eas

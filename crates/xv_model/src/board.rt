@@ -1,7 +1,7 @@
 //! A board: how many of each thing it has, and of which kind.
 
-ghost use Rattle.std.specs.Prelude.{◌≡◌, ◌≤◌};
-ghost use Rattle.xv_model.specs.board.Boards.{is_in};
+ghost use Rattle.std.specs.Prelude.{◌≡◌};
+ghost use Rattle.xv_model.specs.board.Boards.{is_in, is_level, source_pages};
 
 use xv_base::Limits;
 use xv_base::limits::MOST_RANGES;
@@ -21,13 +21,19 @@ pub struct Spans {
 }
 
 impl Spans {
+    /// No numbers.
+    pub const NONE: Spans = Spans {
+        count: 0,
+        spans: [Span { first: 0, last: 0 }; MOST_RANGES as usize],
+    };
+
     /// Whether a number is in one of the ranges.
     pub fn has(&self, n: u32) -> bool
-        requires { self.now.count ≤ MOST_RANGES }
         ensures { result ≡ is_in self.now n }
     {
-        self.spans[..self.count as usize]
+        self.spans
             .iter()
+            .take(self.count as usize)
             .any(|span| span.first <= n && n <= span.last)
     }
 }
@@ -48,4 +54,20 @@ pub struct Board {
     pub unclaimed: Spans,
     /// The processors that start unconnected.
     pub unconnected: Spans,
+}
+
+impl Board {
+    /// Whether a source is a level source.
+    pub fn is_level(&self, s: u32) -> bool
+        ensures { result ≡ is_level self.now s }
+    {
+        self.level.has(s)
+    }
+
+    /// How many pages a source has.
+    pub fn source_pages(&self) -> u8
+        ensures { result ≡ source_pages self.now }
+    {
+        if self.two_pages { 2 } else { 1 }
+    }
 }

@@ -11,6 +11,7 @@ pub mod laws;
 pub mod messages;
 pub mod operations;
 pub mod outcomes;
+pub mod pages;
 #[cfg(test)]
 mod tests;
 pub mod validity;

@@ -6,14 +6,8 @@ mod hypercalls;
 mod operations;
 mod ranges;
 
-use crate::board::{Board, Span, Spans};
+use crate::board::{Board, Spans};
 use xv_base::Limits;
-
-/// No numbers.
-pub const NONE: Spans = Spans {
-    count: 0,
-    spans: [Span { first: 0, last: 0 }; 16],
-};
 
 /// A board with two sources, two processors and 4 MiB of memory.
 pub fn small_board() -> Board {
@@ -27,8 +21,8 @@ pub fn small_board() -> Board {
         ram_mib: 4,
         two_pages: true,
         store_eoi: false,
-        level: NONE,
-        unclaimed: NONE,
-        unconnected: NONE,
+        level: Spans::NONE,
+        unclaimed: Spans::NONE,
+        unconnected: Spans::NONE,
     }
 }

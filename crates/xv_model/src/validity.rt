@@ -1,25 +1,33 @@
 //! Which operations a board has.
 
-ghost use Rattle.std.specs.Prelude.{◌≡◌};
-ghost use Rattle.xv_model.specs.board.Validity.{valid as is_valid, valid_pq, is_queue_shift, is_queue as may_be_queue, has_queue as has_its_queue, never_escalates, has_nothing, notifies_one, valid_config as may_be_config};
+ghost use Rattle.std.specs.Prelude.{◌≡◌, nat_lt};
+ghost use Rattle.xv_model.specs.board.Validity.{valid as is_valid, has_op, end_count, is_queue_shift, is_queue as may_be_queue, has_queue as has_its_queue, never_escalates, has_nothing, notifies_one, valid_config as may_be_config};
 
 use crate::board::Board;
 use crate::hypercalls::H_INT_SET_SOURCE_CONFIG;
 use crate::operations::{EndConfig, EndFlags, Op, PqOp};
+use crate::pages::END_PAGES;
 use bitflags::Flags;
 use xv_base::limits::ENDS_PER_PROCESSOR;
 
-/// Whether an operation on a source's pair is built, and its pair is one.
-fn valid_on_pair(op: PqOp) -> bool
-    ensures { result ≡ valid_pq op }
+/// Whether a source has an operation on its word: a pair that is set is one, and only a level source has a
+/// line that can go up or be up.
+fn has_operation(level: bool, op: PqOp) -> bool
+    ensures { result ≡ has_op level op }
 {
     match op {
-        PqOp::Trigger => true,
-        PqOp::Eoi => true,
-        PqOp::Get => true,
+        PqOp::Trigger | PqOp::Eoi | PqOp::Get => true,
         PqOp::Set { pq } => pq < 4,
-        _ => false,
+        PqOp::Raise | PqOp::Lower => level,
+        PqOp::Init { asserted } => level || !asserted,
     }
+}
+
+/// Whether a board has an END of this number.
+fn has_end(board: &Board, e: u32) -> bool
+    ensures { result ≡ nat_lt e (end_count board.now) }
+{
+    (e as u64) < ENDS_PER_PROCESSOR as u64 * board.limits.processors as u64
 }
 
 /// Whether a queue may have 2 to the power of this many bytes.
@@ -96,12 +104,11 @@ pub fn valid(board: &Board, op: &Op) -> bool
     ensures { result ≡ is_valid board.now op.now }
 {
     match op {
-        Op::Pq { s, op } => *s < board.limits.sources && valid_on_pair(*op),
+        Op::Pq { s, op } => *s < board.limits.sources && has_operation(board.is_level(*s), *op),
+        Op::Esb { s, page, .. } => { *s < board.limits.sources && *page < board.source_pages() }
+        Op::EndEsb { e, page, .. } => has_end(board, *e) && *page < END_PAGES,
         Op::Route { s } => *s < board.limits.sources,
-        Op::EndSet { e, config } => {
-            (*e as u64) < ENDS_PER_PROCESSOR as u64 * board.limits.processors as u64
-                && valid_config(board, config)
-        }
+        Op::EndSet { e, config } => has_end(board, *e) && valid_config(board, config),
         Op::Hcall { number, args: _ } => *number == H_INT_SET_SOURCE_CONFIG,
         _ => false,
     }

@@ -1,8 +1,7 @@
 -- The kinds of entry: on a source's word, quiet, and of the fabric; and the part that an operation is on.
-use Rattle.std.specs.Prelude.{ℕ, ◌==◌, ◌/◌, ◌%◌, ◌&&◌, nat_lt, Bool, true, false, not, if◌then◌else◌, Option, Some, None, option_and_then}
+use Rattle.std.specs.Prelude.{ℕ, ◌==◌, Bool, true, false, not, Option, Some, None, option_and_then}
 use Rattle.std.specs.Option.{option_map_or}
 use Rattle.xv_model.specs.declared.operations.PqOp.{PqOp}
-use Rattle.xv_model.specs.declared.operations.PqOp.TheVariants.{Trigger, Eoi, Get, Set}
 use Rattle.xv_model.specs.declared.operations.Op.{Op}
 use Rattle.xv_model.specs.declared.operations.Op.TheVariants as op
 use Rattle.xv_model.specs.declared.outcomes.EndRun.{EndRun}
@@ -10,35 +9,17 @@ use Rattle.xv_model.specs.declared.outcomes.Routed.TheVariants.{Run}
 use Rattle.xv_model.specs.declared.outcomes.Outcome.{Outcome}
 use Rattle.xv_model.specs.declared.outcomes.Outcome.TheVariants as out
 use Rattle.xv_model.specs.declared.board.Board.{Board}
+use Rattle.xv_model.specs.source.Pages.{page_op}
 
 -- an operation on the word of a source
 pub record WordAccess : Type 0 where
   pub source : ℕ
   pub op : PqOp
 
--- what a load at an offset of a management page does (QEMU's ppc-xive, "event state buffer"): EOI, get, or set
-abbrev pub load_op : ℕ → Option PqOp
-load_op offset =
-    if nat_lt offset 2048 then Some Eoi
-    else (if nat_lt offset 3072 then Some Get else Some (Set (offset / 256 % 4)))
-
--- what a store at an offset of a management page does, on a board with store EOI or without
-abbrev pub store_op : Bool → ℕ → Option PqOp
-store_op eoi offset =
-    if nat_lt offset 1024 then Some Trigger
-    else (if nat_lt offset 2048 then (if eoi then Some Eoi else None)
-    else (if nat_lt offset 3072 then None else Some (Set (offset / 256 % 4))))
-
--- what an access to a page of a source does to its word; with two pages the first one is the trigger page
-abbrev pub page_op : Board → ℕ → ℕ → Bool → Option PqOp
-page_op b page offset store =
-    if b.two_pages && (page == 0) then (if store then Some Trigger else None)
-    else (if store then store_op b.store_eoi (offset % 4096) else load_op (offset % 4096))
-
 -- the access to a source's word, where the operation is one
 abbrev pub access_of : Board → Op → Option WordAccess
 access_of b (op.Pq s o) = Some (record { source = s; op = o })
-access_of b (op.Esb s page offset store) = option_and_then (λ o. Some (record { source = s; op = o })) (page_op b page offset store)
+access_of b (op.Esb s page offset store) = option_and_then (λ o. Some (record { source = s; op = o })) (page_op b.two_pages b.store_eoi page offset store)
 access_of b _ = None
 
 abbrev pub is_at : ℕ → Option WordAccess → Bool

@@ -1,26 +1,23 @@
 -- The legal outcome of an operation, and legal accounts.
-use Rattle.std.specs.Prelude.{ℕ, ◌≡◌, ◌==◌, ◌+◌, ◌<◌, Bool, true, if◌then◌else◌, List, [], ◌∷◌}
+use Rattle.std.specs.Prelude.{ℕ, ◌≡◌, ◌==◌, ◌+◌, ◌<◌, true, if◌then◌else◌, List, [], ◌∷◌}
 use Rattle.xv_base.specs.Limits.{most_forwards}
 use Rattle.xv_model.specs.declared.operations.Op.{Op}
 use Rattle.xv_model.specs.declared.operations.Op.TheVariants as op
 use Rattle.xv_model.specs.declared.outcomes.Outcome.{Outcome}
 use Rattle.xv_model.specs.declared.outcomes.Outcome.TheVariants as out
 use Rattle.xv_model.specs.declared.entries.Entry.{Entry}
-use Rattle.xv_model.specs.declared.board.Board.{Board}
-use Rattle.xv_model.specs.board.Boards.{is_in}
+use Rattle.xv_model.specs.board.Boards.{is_level}
 use Rattle.xv_model.specs.account.Start.{Start}
 use Rattle.xv_model.specs.account.Kinds.{WordAccess, Part, Word, Quiet, Notices, Rest, part_of}
 use Rattle.xv_model.specs.source.PqTable.{Cell, pq_row}
 use Rattle.xv_model.specs.source.Pairs.{pq, asserted}
 use Rattle.xv_model.specs.source.Notices.{forwards}
+use Rattle.xv_model.specs.source.Pages.{untouched_answer}
+use Rattle.xv_model.specs.end.Pages.{end_page_answer}
 use Rattle.xv_model.specs.route.Routing.{route_outcome}
 use Rattle.xv_model.specs.route.Quiet.{quiet_answer}
 use Rattle.xv_model.specs.call.Hypercalls.{hcall_reply}
 use Rattle.xv_model.specs.board.Validity.{valid}
-
--- whether a board has the source as a level source
-abbrev pub is_level : Board → ℕ → Bool
-is_level b s = is_in b.level s
 
 -- what an operation answers whose cell this is, and that finds the pair q and n forwards
 abbrev pub answer_by : Cell → ℕ → ℕ → Outcome
@@ -38,6 +35,8 @@ word_answer z h a = answer_by (cell_after z h a) (pq z h a.source) (forwards z h
 
 -- what an operation on the rest of the fabric answers; one that isn't built has no row, and no legal account has one
 abbrev pub fabric_answer : Start → List Entry → Op → Outcome
+fabric_answer z h (op.Esb s page offset store) = untouched_answer store
+fabric_answer z h (op.EndEsb e page offset store) = end_page_answer z h e page offset store
 fabric_answer z h (op.EndSet e c) = out.Fine
 fabric_answer z h (op.Hcall number args) = out.Reply (hcall_reply z h args)
 fabric_answer z h _ = out.BadAccess

@@ -1,5 +1,5 @@
 -- Which boards there are.
-use Rattle.std.specs.Prelude.{ℕ, ◌≡◌, ◌<◌, ◌≤◌, ◌&&◌, nat_le, Bool, take, slice_get, Some}
+use Rattle.std.specs.Prelude.{ℕ, ◌≡◌, ◌<◌, ◌≤◌, ◌&&◌, nat_le, Bool, if◌then◌else◌, take, slice_get, Some}
 use Rattle.std.specs.List.{list_any}
 use Rattle.xv_base.specs.Limits.{most_sources, most_processors, most_threads, most_actors, most_ram_mib, most_ranges}
 use Rattle.xv_model.specs.declared.board.Span.{Span}
@@ -9,6 +9,14 @@ use Rattle.xv_model.specs.declared.board.Board.{Board}
 -- whether a number is in one of the ranges
 abbrev pub is_in : Spans → ℕ → Bool
 is_in spans n = list_any (λ span. nat_le span.first n && nat_le n span.last) (take spans.count spans.spans)
+
+-- whether a board has the source as a level source
+abbrev pub is_level : Board → ℕ → Bool
+is_level b s = is_in b.level s
+
+-- how many pages a source has
+abbrev pub source_pages : Board → ℕ
+source_pages b = if b.two_pages then 2 else 1
 
 -- there are no more ranges than a board may name, all of numbers below a limit; the spans beyond the count are 0 and 0
 pub record AreBelow (spans : Spans) (limit : ℕ) : Type 0 where
@@ -31,8 +39,3 @@ pub record IsBoard (b : Board) : Type 0 where
   pub level : AreBelow b.level b.limits.sources
   pub unclaimed : AreBelow b.unclaimed b.limits.sources
   pub unconnected : AreBelow b.unconnected b.limits.processors
-
--- a board whose sources are all message sources, and whose processors are all connected
-pub record IsPlain (b : Board) : Type 0 where
-  pub level : b.level.count ≡ 0
-  pub unconnected : b.unconnected.count ≡ 0

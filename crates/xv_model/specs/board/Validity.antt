@@ -1,22 +1,30 @@
 -- Which operations a board has.
-use Rattle.std.specs.Prelude.{ℕ, ◌==◌, ◌+◌, ◌*◌, ◌^◌, ◌%◌, nat_lt, nat_le, ◌&&◌, ◌||◌, Bool, true, false, if◌then◌else◌}
+use Rattle.std.specs.Prelude.{ℕ, ◌==◌, ◌+◌, ◌*◌, ◌^◌, ◌%◌, nat_lt, nat_le, ◌&&◌, ◌||◌, not, Bool, true, false, if◌then◌else◌}
 use Rattle.xv_base.specs.Limits.{ends_per_processor}
 use Rattle.xv_model.specs.declared.hypercalls.TheConstants.{H_INT_SET_SOURCE_CONFIG}
+use Rattle.xv_model.specs.declared.pages.TheConstants.{END_PAGES}
 use Rattle.xv_model.specs.declared.board.Board.{Board}
 use Rattle.xv_model.specs.declared.operations.PqOp.{PqOp}
-use Rattle.xv_model.specs.declared.operations.PqOp.TheVariants.{Trigger, Eoi, Get, Set}
+use Rattle.xv_model.specs.declared.operations.PqOp.TheVariants.{Trigger, Eoi, Get, Set, Raise, Lower, Init}
 use Rattle.xv_model.specs.declared.operations.EndConfig.{EndConfig}
 use Rattle.xv_model.specs.declared.operations.Op.{Op}
 use Rattle.xv_model.specs.declared.operations.Op.TheVariants as op
+use Rattle.xv_model.specs.board.Boards.{is_level, source_pages}
 use Rattle.xv_model.specs.end.Flags.{is_valid, enqueues}
 
--- whether an operation on a pair is built, and its pair is one
-abbrev pub valid_pq : PqOp → Bool
-valid_pq Trigger = true
-valid_pq Eoi = true
-valid_pq Get = true
-valid_pq (Set new) = nat_lt new 4
-valid_pq _ = false
+-- whether a source has an operation, a level source or not: a pair that is set is one, and only a level source has a line
+abbrev pub has_op : Bool → PqOp → Bool
+has_op level Trigger = true
+has_op level Eoi = true
+has_op level Get = true
+has_op level (Set new) = nat_lt new 4
+has_op level Raise = level
+has_op level Lower = level
+has_op level (Init asserted) = level || not asserted
+
+-- how many ENDs a board has
+abbrev pub end_count : Board → ℕ
+end_count b = ends_per_processor * b.limits.processors
 
 -- the bytes of a board's memory
 abbrev pub ram_size : Board → ℕ
@@ -52,8 +60,10 @@ valid_config b c = (c.start == 0) && (has_queue b c && (if is_valid c then notif
 
 -- whether an operation is built, and each of its numbers is in range
 abbrev pub valid : Board → Op → Bool
-valid b (op.Pq s o) = nat_lt s b.limits.sources && valid_pq o
+valid b (op.Pq s o) = nat_lt s b.limits.sources && has_op (is_level b s) o
+valid b (op.Esb s page offset store) = nat_lt s b.limits.sources && nat_lt page (source_pages b)
+valid b (op.EndEsb e page offset store) = nat_lt e (end_count b) && nat_lt page END_PAGES
 valid b (op.Route s) = nat_lt s b.limits.sources
-valid b (op.EndSet e c) = nat_lt e (ends_per_processor * b.limits.processors) && valid_config b c
+valid b (op.EndSet e c) = nat_lt e (end_count b) && valid_config b c
 valid b (op.Hcall number args) = number == H_INT_SET_SOURCE_CONFIG
 valid b _ = false

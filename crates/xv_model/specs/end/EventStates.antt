@@ -1,9 +1,13 @@
 -- The states of an END, which coalesce its notifications and its escalations (QEMU's hw/intc/xive.c, xive_router_end_notify).
-use Rattle.std.specs.Prelude.{ℕ, ◌==◌, ◌&&◌, ◌||◌, not, Bool, false, if◌then◌else◌, List, [], ◌∷◌, Option, Some}
+use Rattle.std.specs.Prelude.{ℕ, ◌==◌, ◌&&◌, ◌||◌, not, Bool, false, if◌then◌else◌, List, [], ◌∷◌, Option, Some, None}
 use Rattle.std.specs.Option.{option_map_or}
 use Rattle.xv_model.specs.declared.operations.EndConfig.{EndConfig}
+use Rattle.xv_model.specs.declared.operations.Op.{Op}
+use Rattle.xv_model.specs.declared.operations.Op.TheVariants as op
 use Rattle.xv_model.specs.declared.outcomes.EndRun.{EndRun}
 use Rattle.xv_model.specs.declared.outcomes.EndRun.TheVariants as run
+use Rattle.xv_model.specs.declared.outcomes.Outcome.{Outcome}
+use Rattle.xv_model.specs.declared.outcomes.Outcome.TheVariants as out
 use Rattle.xv_model.specs.declared.entries.Entry.{Entry}
 use Rattle.xv_model.specs.account.Start.{Start}
 use Rattle.xv_model.specs.account.Kinds.{run_of}
@@ -24,15 +28,35 @@ ran_at e _ = false
 abbrev pub asks_state : EndConfig → Bool
 asks_state c = not (is_silent c || always_notifies c)
 
--- the state of notifications (ESn): each pass that asks it triggers it
+-- a load of a page of an END: what it made of the state that the page is of
+pub record Load : Type 0 where
+  pub end : ℕ
+  pub page : ℕ
+  pub new : ℕ
+
+-- the load, where an entry is one that found a valid END
+abbrev pub load_in : Op → Outcome → Option Load
+load_in (op.EndEsb e page offset store) (out.EndPq old new) = Some (record { end = e; page = page; new = new })
+load_in _ _ = None
+
+-- what a load made of the state of e that a page is of, where it is one of that page
+abbrev pub load_at : ℕ → ℕ → Option Load → Option ℕ
+load_at page e (Some l) = if (l.page == page) && (l.end == e) then Some l.new else None
+load_at page e None = None
+
+-- what an entry made of the state of e that a page is of, where it loaded it
+abbrev pub load_by : ℕ → ℕ → Entry → Option ℕ
+load_by page e x = load_at page e (load_in x.op x.outcome)
+
+-- the state of notifications (ESn): each pass that asks it triggers it, and each load of page 0 changes it
 abbrev pub esn : Start → List Entry → ℕ → ℕ
 esn z [] e = z.esn e
 esn z (x ∷ h) e =
     let before = esn z h e in
-    option_map_or first_state (config_by e x)
-    (if ran_at e (run_of x.op x.outcome) && asks_state (end_config z h e) then (trigger_row before).pair else before)
+    let triggered = if ran_at e (run_of x.op x.outcome) && asks_state (end_config z h e) then (trigger_row before).pair else before in
+    option_map_or first_state (config_by e x) (option_map_or (λ new. new) (load_by 0 e x) triggered)
 
--- the state of escalations (ESe): no operation that is built triggers it
+-- the state of escalations (ESe): each load of page 1 changes it, and no operation that is built triggers it
 abbrev pub ese : Start → List Entry → ℕ → ℕ
 ese z [] e = z.ese e
-ese z (x ∷ h) e = option_map_or first_state (config_by e x) (ese z h e)
+ese z (x ∷ h) e = option_map_or first_state (config_by e x) (option_map_or (λ new. new) (load_by 1 e x) (ese z h e))

@@ -7,11 +7,12 @@ use Rattle.xv_model.specs.declared.outcomes.Outcome.{Outcome}
 use Rattle.xv_model.specs.declared.outcomes.Outcome.TheVariants as out
 use Rattle.xv_model.specs.declared.entries.Entry.{Entry}
 use Rattle.xv_model.specs.declared.board.Board.{Board}
+use Rattle.xv_model.specs.board.Boards.{is_level}
 use Rattle.xv_model.specs.account.Start.{start}
 use Rattle.xv_model.specs.account.Kinds.{WordAccess, access_of}
 use Rattle.xv_model.specs.source.Pairs.{Touch, touch_of, touch_at}
 use Rattle.xv_model.specs.source.Notices.{forwards}
-use Rattle.xv_model.specs.account.Legal.{IsLegal, is_level}
+use Rattle.xv_model.specs.account.Legal.{IsLegal}
 
 -- the number of a touch's forward, where it forwards
 abbrev pub number_of : Option Touch → List ℕ

@@ -1,7 +1,6 @@
 //! Which numbers are in ranges.
 
 use crate::board::{Span, Spans};
-use crate::tests::NONE;
 
 #[test]
 fn numbers_in_ranges(rt: HostRuntime) {
@@ -20,5 +19,5 @@ fn numbers_in_ranges(rt: HostRuntime) {
     assert!(rt; !two.has(0));
     let one = Spans { count: 1, spans };
     assert!(rt; !one.has(9));
-    assert!(rt; !NONE.has(0));
+    assert!(rt; !Spans::NONE.has(0));
 }
