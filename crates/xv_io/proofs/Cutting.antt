@@ -1,11 +1,12 @@
 -- Lines of bytes of which the first are known.
 use Rattle.std.proofs.Common.{ℕ, ◌≡◌, ◌+◌, ◌-◌, ◌≤◌, ◌<◌, ◌≢◌, suc, zero, List, [], ◌∷◌, ◌++◌, length, take, drop, arith, refl, sym, ◌∙◌, ap, subst, append_assoc, append-nil, length-append, length-drop, eqb-true, eq-eqb, Bool, true, false, cond, ◌==◌, nat_le}
-use Rattle.std.proofs.lemmas.Bool.{ne_eqb, le-leb, lt-leb}
+use Rattle.std.proofs.lemmas.Bool.{and_parts, ne_eqb, le-leb, lt-leb}
 use Rattle.std.proofs.lemmas.List.{drop-take, take-take, length-take-le, take_all, drop_all}
 use Rattle.std.proofs.lemmas.Bool.Decides.{nat_tests}
 use Rattle.xv_base.specs.Lines.{lines_after, whole_lines_after, last_line, lines_within, are_too_many}
 use Rattle.xv_base.specs.Limits.{longest_line}
-use Rattle.xv_io.specs.Reader.{line_length}
+use Rattle.std.specs.List.{list_all}
+use Rattle.xv_io.specs.Reader.{line_length, is_inside}
 
 -- ---- the length of the first line
 
@@ -14,6 +15,16 @@ line_length-hit b bs e = rw (eq-eqb b 10 e) refl
 
 pub line_length-miss : (b : ℕ) (bs : List ℕ) → b ≢ 10 → line_length (b ∷ bs) ≡ line_length bs + 1
 line_length-miss b bs n = rw (ne_eqb b 10 n) (omega arith)
+
+-- behind bytes that stand inside of the first line the newline is so much nearer
+pub line_length-behind : (n : ℕ) (bytes : List ℕ) → n ≤ length bytes → list_all is_inside (take n bytes) ≡ true → line_length bytes ≡ n + line_length (drop n bytes)
+line_length-behind zero bytes l e = omega arith
+line_length-behind (suc n) [] l e = absurd (omega (arith, l))
+line_length-behind (suc n) (b ∷ bs) l e =
+    let both = and_parts (is_inside b) (list_all is_inside (take n bs)) e in
+    let inside : (b == 10) ≡ false = grind (arith, nat_tests) in
+    let more = line_length-behind n bs (omega (arith, l)) both.1 in
+    rw inside (omega (arith, more))
 
 pub line_length-le-length : (bytes : List ℕ) → line_length bytes ≤ length bytes
 line_length-le-length [] = omega arith

@@ -1,5 +1,5 @@
 -- What a reader of lines has read and given.
-use Rattle.std.specs.Prelude.{ℕ, ◌≡◌, ◌<◌, ◌≤◌, ◌+◌, ◌-◌, ◌==◌, suc, Bool, true, if◌then◌else◌, List, [], ◌∷◌, ◌++◌, length, Option, slice_range}
+use Rattle.std.specs.Prelude.{ℕ, ◌≡◌, ◌<◌, ◌≤◌, ◌+◌, ◌-◌, ◌==◌, suc, Bool, true, not, if◌then◌else◌, List, [], ◌∷◌, ◌++◌, length, Option, slice_range}
 use Rattle.std.specs.Io.KnownBytes.{Consumes, prepend_known}
 use Rattle.xv_base.specs.Limits.{byte_limit, longest_line}
 use Rattle.xv_base.specs.Lines.{lines_within, whole_lines, are_too_many}
@@ -58,6 +58,10 @@ pub record Reads (old : Reading) (left : Option (List ℕ)) (new : Reading) (lef
 abbrev pub line_length : List ℕ → ℕ
 line_length [] = 0
 line_length (b ∷ bs) = if b == 10 then 0 else suc (line_length bs)
+
+-- whether a byte stands inside of a line
+abbrev pub is_inside : ℕ → Bool
+is_inside b = not (b == 10)
 
 -- the places of a reader's piece are in order, what is before those read ahead is at most a line, and not too much was given
 pub record IsInOrder (start end at len given : ℕ) : Type 0 where

@@ -3,7 +3,8 @@
 ghost use Rattle.std.specs.Prelude.{◌≡◌, ◌≢◌, ◌<◌, ◌≤◌, ◌+◌, ◌*◌, ◌⊎◌, [], true, false, IsTrue, IsFalse, OnOk, OnErr, length, slice_range};
 ghost use Rattle.std.specs.Io.KnownBytes.{IsAtEnd, Keeps};
 ghost use Rattle.xv_io.specs.Faults.{HasRisen};
-ghost use Rattle.xv_io.specs.Reader.{Reading, Reads, rest, GivesLine, GivesWholeLine, HasLongLine, HasNoLine, IsInOrder, IsMoved, line_length};
+ghost use Rattle.xv_io.specs.Reader.{Reading, Reads, rest, GivesLine, GivesWholeLine, HasLongLine, HasNoLine, IsInOrder, IsMoved, line_length, is_inside as is_inside_line};
+ghost use Rattle.std.specs.List.{list_all};
 
 use crate::{Failed, Source};
 use std::marker::Model;
@@ -176,12 +177,59 @@ fn make_room(piece: &mut [u8; ROOM], start: usize, len: usize) -> usize
     start
 }
 
-/// Where the first newline is, or the length where there is none.
-fn newline_or_len(bytes: &[u8]) -> usize
-    ensures { result ≡ line_length bytes.now }
+/// Whether a byte stands inside of a line, and doesn't end it.
+fn is_inside(b: u8) -> bool
+    ensures { result ≡ is_inside_line b }
+{
+    b != b'\n'
+}
+
+/// Whether each of eight bytes stands inside of a line. They are looked at together, without a branch.
+fn are_inside(eight: &[u8]) -> bool
+    requires { length eight.now ≡ 8 }
+    ensures { result ≡ list_all is_inside_line eight.now }
+{
+    match eight {
+        [a, b, c, d, e, f, g, h] => {
+            (is_inside(*a) & is_inside(*b) & is_inside(*c) & is_inside(*d))
+                & (is_inside(*e) & is_inside(*f) & is_inside(*g) & is_inside(*h))
+        }
+        _ => unreachable!(),
+    }
+}
+
+/// What is left of bytes behind some that stand inside of the first line, eight by eight.
+fn behind_eights(bytes: &[u8]) -> &[u8]
+    ensures line { line_length bytes.now + length result.now
+        ≡ length bytes.now + line_length result.now }
+    ensures few { length result.now ≤ length bytes.now }
+{
+    let mut rest = bytes;
+    while rest.len() >= 8 {
+        let (eight, more) = rest.split_at(8);
+        if !are_inside(eight) {
+            return rest;
+        }
+        rest = more;
+    }
+    rest
+}
+
+/// Where the first newline is, or the length where there is none, one byte after the other.
+fn first_newline(bytes: &[u8]) -> usize
+    ensures value { result ≡ line_length bytes.now }
+    ensures within { result ≤ length bytes.now }
 {
     bytes
         .iter()
         .position(|&b| b == b'\n')
         .unwrap_or(bytes.len())
+}
+
+/// Where the first newline is, or the length where there is none.
+fn newline_or_len(bytes: &[u8]) -> usize
+    ensures { result ≡ line_length bytes.now }
+{
+    let rest = behind_eights(bytes);
+    bytes.len() - rest.len() + first_newline(rest)
 }
