@@ -1,4 +1,3 @@
 pub mod Applied
 pub mod Packing
-pub mod Rows
 pub mod Word

@@ -5,7 +5,7 @@ ghost use Rattle.xv_model.specs.declared.operations.PqOp.{PqOp as APqOp};
 ghost use Rattle.xv_base.specs.Limits.{most_forwards};
 ghost use Rattle.xv_model.specs.account.Legal.{answer_by};
 ghost use Rattle.xv_model.specs.account.Outcomes.{IsWellFormed};
-ghost use Rattle.esb_pq.specs.Rows.{has_op};
+ghost use Rattle.xv_model.specs.board.Validity.{has_op};
 ghost use Rattle.esb_pq.specs.Applied.{cell_at, stored_by, by_table, word_in};
 
 use crate::rows::{cell_of, flag_after};

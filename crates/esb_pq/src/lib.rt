@@ -10,5 +10,5 @@ mod tests;
 mod word;
 
 pub use applied::{Applied, apply, outcome_of, word_after};
-pub use rows::{Cell, asserted_eoi, eoi, level_trigger, raise, trigger};
+pub use rows::{Cell, cell_of, trigger};
 pub use word::SourceWord;

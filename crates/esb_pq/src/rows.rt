@@ -3,7 +3,7 @@
 ghost use Rattle.std.specs.Prelude.{◌≡◌, ◌<◌, true, false, IsTrue};
 ghost use Rattle.xv_model.specs.declared.operations.PqOp.TheVariants.{Trigger, Eoi, Raise};
 ghost use Rattle.xv_model.specs.source.PqTable.{pq_row, trigger_row, flag_after as flag_after_op};
-ghost use Rattle.esb_pq.specs.Rows.{has_op};
+ghost use Rattle.xv_model.specs.board.Validity.{has_op};
 
 use xv_model::operations::PqOp;
 
@@ -47,7 +47,7 @@ pub fn trigger(pq: u8) -> Cell
 }
 
 /// A trigger of a level source, which sets no Q.
-pub fn level_trigger(pq: u8) -> Cell
+fn level_trigger(pq: u8) -> Cell
     requires { pq < 4 }
     ensures pq { result.pq ≡ (pq_row Trigger true false pq).pair }
     ensures forwards { result.forwards ≡ (pq_row Trigger true false pq).forwards }
@@ -61,7 +61,7 @@ pub fn level_trigger(pq: u8) -> Cell
 
 /// An EOI of a message source, of a level source whose line is down, and of a state of an END
 /// (QEMU's hw/intc/xive.c, xive_esb_eoi).
-pub fn eoi(pq: u8) -> Cell
+fn eoi(pq: u8) -> Cell
     requires { pq < 4 }
     ensures pq { result.pq ≡ (pq_row Eoi false false pq).pair }
     ensures forwards { result.forwards ≡ (pq_row Eoi false false pq).forwards }
@@ -75,7 +75,7 @@ pub fn eoi(pq: u8) -> Cell
 }
 
 /// An EOI of a level source whose line is up: it forwards again, unless the source is off.
-pub fn asserted_eoi(pq: u8) -> Cell
+fn asserted_eoi(pq: u8) -> Cell
     requires { pq < 4 }
     ensures pq { result.pq ≡ (pq_row Eoi true true pq).pair }
     ensures forwards { result.forwards ≡ (pq_row Eoi true true pq).forwards }
@@ -85,7 +85,7 @@ pub fn asserted_eoi(pq: u8) -> Cell
 }
 
 /// The line of a level source goes up. That sets no Q, since the assertion flag remembers it.
-pub fn raise(pq: u8) -> Cell
+fn raise(pq: u8) -> Cell
     requires { pq < 4 }
     ensures pq { result.pq ≡ (pq_row Raise true false pq).pair }
     ensures forwards { result.forwards ≡ (pq_row Raise true false pq).forwards }
@@ -94,8 +94,9 @@ pub fn raise(pq: u8) -> Cell
     level_trigger(pq)
 }
 
-/// The cell of an operation, at a source's kind, flag and pair.
-pub(crate) fn cell_of(op: PqOp, level: bool, asserted: bool, pq: u8) -> Cell
+/// The cell of an operation, at a source's kind, flag and pair. A state of an END has the cells of a message
+/// source.
+pub fn cell_of(op: PqOp, level: bool, asserted: bool, pq: u8) -> Cell
     requires op { IsTrue (has_op level op) }
     requires pq { pq < 4 }
     ensures pq { result.pq ≡ (pq_row op level asserted pq).pair }

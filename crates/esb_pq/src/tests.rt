@@ -1,7 +1,7 @@
 //! The PQ table row by row, as it is written, and the layout of a word.
 
 ghost use Rattle.std.specs.Prelude.{IsTrue};
-ghost use Rattle.esb_pq.specs.Rows.{has_op};
+ghost use Rattle.xv_model.specs.board.Validity.{has_op};
 
 use crate::{Applied, SourceWord, apply, outcome_of, word_after};
 use xv_base::limits::MOST_FORWARDS;
