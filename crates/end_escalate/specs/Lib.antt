@@ -1,0 +1,1 @@
+-- No definitions: the rows are those of xv_model.
