@@ -1,6 +1,7 @@
 -- What the router keeps, and which account that represents.
 pub mod Configuring
 pub mod Ends
+pub mod Pages
 pub mod Passes
 pub mod Routing
 pub mod Tables

@@ -4,6 +4,7 @@
 
 mod configuring;
 pub mod ends;
+mod pages;
 mod passes;
 mod routing;
 pub mod tables;

@@ -7,7 +7,7 @@ ghost use Rattle.router.specs.Passes.{enqueued, notified, after_pass, pass_by, m
 
 use crate::ends::EndRecord;
 use bitflags::Flags;
-use esb_pq::trigger;
+use end_escalate::notify_state;
 use xv_model::messages::Message;
 use xv_model::operations::{EndConfig, EndFlags};
 use xv_model::outcomes::{EndRun, Then, Wrote};
@@ -52,9 +52,9 @@ pub(crate) fn notify(end: &mut EndRecord) -> Then
     if flags.contains(EndFlags::NOTIFY_ALWAYS) {
         return Then::Present;
     }
-    let cell = trigger(end.esn);
-    end.esn = cell.pq;
-    if cell.forwards {
+    let (esn, forwards) = notify_state(end.esn);
+    end.esn = esn;
+    if forwards {
         Then::Present
     } else {
         Then::Coalesced

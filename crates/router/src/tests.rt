@@ -18,6 +18,7 @@ use xv_model::board::{Board, Span, Spans};
 use xv_model::messages::Message;
 use xv_model::operations::{EndConfig, EndFlags, Op};
 use xv_model::outcomes::{EndRun, Outcome, Routed, Then, Wrote};
+use xv_model::pages::END_PAGES;
 use xv_model::validity::valid;
 
 /// One number.
@@ -361,4 +362,47 @@ fn ways_to_go_on(rt: HostRuntime) {
         assert_eq!(rt; matches!(then, Then::Escalate), escalates, "at {flags}");
         assert_eq!(rt; end.esn, after, "at {flags}");
     }
+}
+
+/// A load at an offset of a page of END 6.
+fn load(rt: &impl Abort, tables: &mut Tables, page: u8, offset: u16) -> Outcome {
+    assert!(rt; 6 < ENDS_PER_PROCESSOR * tables.board().limits.processors);
+    assert!(rt; page < END_PAGES);
+    tables.access_end(6, page, offset, false)
+}
+
+/// Whether a load found the state `from` and left it as `to`.
+fn loaded(outcome: Outcome, from: u8, to: u8) -> bool {
+    matches!(outcome, Outcome::EndPq { old, new } if old == from && new == to)
+}
+
+#[test]
+fn pages_of_an_end(rt: HostRuntime) {
+    let tables = &mut tables(&rt, rt.alloc());
+    assert_eq!(rt; tables.set_source_config(&[2, 0, 0, 6, 5]).code, 0);
+    assert!(rt; matches!(load(&rt, tables, 0, 0), Outcome::NoEnd));
+    configure(&rt, tables, 6, &config(3));
+    let first = routed(&rt, tables, 1);
+    assert!(rt; written(&rt, first).1);
+    let second = routed(&rt, tables, 2);
+    assert!(rt; !written(&rt, second).1);
+    // ESn is 11: an EOI leaves 10, and the next one 00, so that the END presents again.
+    assert!(rt; loaded(load(&rt, tables, 0, 0x800), 3, 3));
+    assert!(rt; loaded(load(&rt, tables, 0, 0), 3, 2));
+    assert!(rt; loaded(load(&rt, tables, 0, 0x1000), 2, 0));
+    assert_eq!(rt; tables.flight(), 1);
+    let third = routed(&rt, tables, 3);
+    assert!(rt; written(&rt, third).1);
+    assert!(rt; loaded(load(&rt, tables, 1, 0xd00), 0, 1));
+    assert!(rt; loaded(load(&rt, tables, 0, 0x800), 2, 2));
+    assert!(rt; loaded(load(&rt, tables, 1, 0x800), 1, 1));
+    assert_eq!(rt; count(&rt, tables, 6), 3);
+}
+
+#[test]
+fn stores_to_pages_of_ends(rt: HostRuntime) {
+    let tables = &mut tables(&rt, rt.alloc());
+    assert!(rt; 15 < ENDS_PER_PROCESSOR * tables.board().limits.processors);
+    assert!(rt; matches!(tables.access_end(15, 0, 0, true), Outcome::BadOffset));
+    assert!(rt; matches!(tables.access_end(15, 1, 0xc00, false), Outcome::NoEnd));
 }
