@@ -1,4 +1,5 @@
 -- Lemmas.
+pub mod Accesses
 pub mod Burdens
 pub mod Notices
 pub mod Starting

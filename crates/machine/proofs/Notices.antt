@@ -24,7 +24,8 @@ use Rattle.xv_model.proofs.HalvesLemmas.{forwards-skips}
 use Rattle.xv_model.proofs.Sums.{sum_below-same, sum_below-more_at}
 use Rattle.esb_pq.specs.Word.{SourceParts}
 use Rattle.machine.specs.Answering.{forwarded_in, consumed_in}
-use Rattle.machine.proofs.Words.{on_word, touch_by_op, untouched}
+use Rattle.machine.specs.Machine.{word_of}
+use Rattle.machine.proofs.Words.{IsOn, touch_by_op, word_after, untouched, same_routes}
 
 -- a route of s
 abbrev pub routes_s : ℕ → ℕ → Outcome → Entry
@@ -40,26 +41,25 @@ outstanding_is : (f r f' r' k : ℕ) → r ≤ f → r' ≡ r → f' ≡ f + k �
 outstanding_is f r f' r' k a b c = omega (arith, a, b, c)
 
 -- the notices after an entry on the word of s
-pub word_notices : (z : Start) (h : List Entry) (s actor : ℕ) (o : PqOp) (r : Outcome) → s < z.board.limits.sources →
-    ((q : ℕ) → routes z h q ≤ forwards z h q) →
-    all_outstanding z (on_word actor s o r ∷ h) ≡ all_outstanding z h + forwarded_in r
-word_notices z h s actor o r l within =
-    sum_below-more_at (outstanding z h) (outstanding z h') z.board.limits.sources s (forwarded_in r) l here (λ q _ d. there q d)
+pub word_notices : (z : Start) (h : List Entry) (x : Entry) (s : ℕ) (o : PqOp) → IsOn z.board x.op s o → s < z.board.limits.sources →
+    ((q : ℕ) → routes z h q ≤ forwards z h q) → all_outstanding z (x ∷ h) ≡ all_outstanding z h + forwarded_in x.outcome
+word_notices z h x s o on l within =
+    sum_below-more_at (outstanding z h) (outstanding z (x ∷ h)) z.board.limits.sources s (forwarded_in x.outcome) l here (λ q _ other. there q other)
   where
-    h' : List Entry
-    h' = on_word actor s o r ∷ h
+    count_after : (q : ℕ) → (v : SourceParts) → word_of z (x ∷ h) q ≡ v → forwards z (x ∷ h) q ≡ v.count
+    count_after q v e = ap (λ (w : SourceParts). w.count) e
 
-    here : outstanding z (on_word actor s o r ∷ h) s ≡ outstanding z h s + forwarded_in r
+    here : outstanding z (x ∷ h) s ≡ outstanding z h s + forwarded_in x.outcome
     here =
-        outstanding_is (forwards z h s) (routes z h s) (forwards z (on_word actor s o r ∷ h) s) (routes z (on_word actor s o r ∷ h) s)
-        (forwarded_in r) (within s) (omega arith) (forwards_by s o r (forwards z h s))
+        outstanding_is (forwards z h s) (routes z h s) (forwards z (x ∷ h) s) (routes z (x ∷ h) s)
+        (forwarded_in x.outcome) (within s) (same_routes z h x s s o on)
+        (count_after s _ (word_after z h x s s o on) ∙ forwards_by s o x.outcome (forwards z h s))
 
-    there : (q : ℕ) → q ≢ s → outstanding z (on_word actor s o r ∷ h) q ≡ outstanding z h q
-    there q d =
-        let same : forwards z (on_word actor s o r ∷ h) q ≡ forwards z h q =
-        ap (λ (w : SourceParts). w.count) (untouched z h s q actor o r d) in
-        outstanding_is (forwards z h q) (routes z h q) (forwards z (on_word actor s o r ∷ h) q) (routes z (on_word actor s o r ∷ h) q)
-        0 (within q) (omega arith) (omega (arith, same)) ∙ omega arith
+    there : (q : ℕ) → q ≢ s → outstanding z (x ∷ h) q ≡ outstanding z h q
+    there q other =
+        let same : forwards z (x ∷ h) q ≡ forwards z h q = count_after q _ (untouched z h x s q o on other) in
+        outstanding_is (forwards z h q) (routes z h q) (forwards z (x ∷ h) q) (routes z (x ∷ h) q)
+        0 (within q) (same_routes z h x s q o on) (omega (arith, same)) ∙ omega arith
 
 -- no answer on a source's word consumes a notice
 pub word_consumes : (c : Cell) (q n : ℕ) → consumed_in (answer_by c q n) ≡ 0

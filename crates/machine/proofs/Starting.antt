@@ -23,6 +23,7 @@ starts b t words w is_off tables items = record {
         (slice_get-get_or (replicate b.limits.sources off) s off (subst (λ k. s < k) (sym (length-replicate b.limits.sources off)) l)
         ∙ ap Some (get_or-replicate b.limits.sources s off off l));
     forwarded = λ s. omega arith;
+    idle = λ v l. record { phase = refl; cppr = refl; ipb = refl; backlog = refl };
   };
   index = refl;
   notices = sym (sum_below-zero b.limits.sources);

@@ -1,6 +1,7 @@
 -- A step of a machine that represents an account.
-use Rattle.std.proofs.Common.{ℕ, ◌≡◌, ◌+◌, ◌-◌, ◌<◌, ◌≤◌, Bool, true, false, List, ◌∷◌, Some, None, refl, sym, ◌∙◌, ap, subst, arith, suc, slice_index_or, slice_set, add-one}
-use Rattle.std.specs.Prelude.{nat_lt}
+use Rattle.std.proofs.Common.{ℕ, ◌≡◌, ◌+◌, ◌-◌, ◌<◌, ◌≤◌, Bool, true, false, if◌then◌else◌, List, ◌∷◌, Some, None, refl, sym, ◌∙◌, ap, subst, arith, suc, slice_index_or, slice_set, add-one}
+use Rattle.std.specs.Prelude.{nat_lt, option_and_then}
+use Rattle.std.specs.Option.{option_map_or}
 use Rattle.std.proofs.lemmas.Bool.{and_parts, ltb-true, eqb-true}
 use Rattle.xv_model.specs.declared.board.Board.{Board}
 use Rattle.xv_model.specs.declared.operations.PqOp.{PqOp}
@@ -10,11 +11,16 @@ use Rattle.xv_model.specs.declared.outcomes.HReply.{HReply}
 use Rattle.xv_model.specs.declared.outcomes.Outcome.{Outcome}
 use Rattle.xv_model.specs.declared.outcomes.Outcome.TheVariants as out
 use Rattle.xv_model.specs.declared.entries.Entry.{Entry}
-use Rattle.xv_model.specs.board.Boards.{IsPlain}
-use Rattle.xv_model.specs.board.Validity.{valid, valid_pq}
+use Rattle.xv_model.specs.board.Boards.{is_level, source_pages}
+use Rattle.xv_model.specs.board.Validity.{has_op, end_count, valid}
+use Rattle.xv_model.specs.declared.pages.TheConstants.{END_PAGES}
 use Rattle.xv_model.specs.account.Start.{Start}
-use Rattle.xv_model.specs.account.Kinds.{access_of}
-use Rattle.xv_model.specs.account.Legal.{legal}
+use Rattle.xv_model.specs.account.Kinds.{Word, Rest, access_of}
+use Rattle.xv_model.specs.account.Legal.{answer_on, legal}
+use Rattle.xv_model.specs.source.Pages.{page_op, untouched_answer}
+use Rattle.xv_model.specs.end.Flags.{is_valid}
+use Rattle.xv_model.specs.end.Descriptors.{end_config}
+use Rattle.xv_model.specs.end.Pages.{state_of, load_row, loaded, end_page_answer}
 use Rattle.xv_model.specs.source.Pairs.{pq, asserted}
 use Rattle.xv_model.specs.source.Notices.{forwards, route_in, routes, all_outstanding}
 use Rattle.xv_model.specs.declared.hypercalls.TheConstants.{H_INT_SET_SOURCE_CONFIG}
@@ -22,23 +28,30 @@ use Rattle.xv_model.specs.call.Hypercalls.{hcall_reply}
 use Rattle.xv_model.specs.route.Routing.{route_outcome}
 use Rattle.xv_model.proofs.HalvesLemmas.{pq-skips, asserted-skips, forwards-skips}
 use Rattle.esb_pq.specs.Word.{SourceParts}
-use Rattle.esb_pq.specs.Rows.{has_op}
 use Rattle.esb_pq.specs.Applied.{cell_at}
 use Rattle.router.specs.Tables.{Kept, StandsFor as TablesStandFor}
 use Rattle.router.proofs.Elements.{read}
 use Rattle.machine.specs.Answering.{forwarded_in, consumed_in}
 use Rattle.machine.specs.Machine.{Held, AreParts, StandsFor, word_of}
-use Rattle.machine.proofs.Words.{answer_at, word_past, word_parts, word_legal, has_valid}
+use Rattle.machine.proofs.Words.{IsOn, answer_at, word_past, word_parts, word_legal}
 use Rattle.machine.proofs.Notices.{routes_s, word_notices, word_consumes, on_no_word, unrouted, quiet_notices, routed_within, route_notices, route_forwards}
 
 -- a valid operation on a word names a source that has it
-valid_word : (b : Board) (p : Op) (s : ℕ) (o : PqOp) → p ≡ op.Pq s o → valid b p ≡ true → (s < b.limits.sources) × (valid_pq o ≡ true)
+pub valid_word : (b : Board) (p : Op) (s : ℕ) (o : PqOp) → p ≡ op.Pq s o → valid b p ≡ true → (s < b.limits.sources) × (has_op (is_level b s) o ≡ true)
 valid_word b p s o e v =
-    let both = and_parts (nat_lt s b.limits.sources) (valid_pq o) (subst (λ p. valid b p ≡ true) e v) in
+    let both = and_parts (nat_lt s b.limits.sources) (has_op (is_level b s) o) (subst (λ p. valid b p ≡ true) e v) in
     (ltb-true s b.limits.sources both.0, both.1)
 
-pub has_op_in : (b : Board) (p : Op) (s : ℕ) (o : PqOp) → p ≡ op.Pq s o → valid b p ≡ true → has_op false o ≡ true
-has_op_in b p s o e v = has_valid o (valid_word b p s o e v).1
+-- a valid access to a page names a source
+pub valid_page : (b : Board) (p : Op) (s page offset : ℕ) (store : Bool) → p ≡ op.Esb s page offset store → valid b p ≡ true → s < b.limits.sources
+valid_page b p s page offset store e v =
+    ltb-true s b.limits.sources (and_parts (nat_lt s b.limits.sources) (nat_lt page (source_pages b)) (subst (λ p. valid b p ≡ true) e v)).0
+
+-- a valid access to a page of an END names an END and one of its pages
+pub valid_end_page : (b : Board) (p : Op) (e page offset : ℕ) (store : Bool) → p ≡ op.EndEsb e page offset store → valid b p ≡ true → (e < end_count b) × (page < END_PAGES)
+valid_end_page b p e page offset store is v =
+    let both = and_parts (nat_lt e (end_count b)) (nat_lt page END_PAGES) (subst (λ p. valid b p ≡ true) is v) in
+    (ltb-true e (end_count b) both.0, ltb-true page END_PAGES both.1)
 
 -- a valid route names a source
 valid_route : (b : Board) (p : Op) (s : ℕ) → p ≡ op.Route s → valid b p ≡ true → s < b.limits.sources
@@ -51,21 +64,19 @@ pub record Steps (t : Kept) (words : List SourceParts) (t' : Kept) (words' : Lis
   pub notices : all_outstanding z (x ∷ h) + consumed_in x.outcome ≡ all_outstanding z h + forwarded_in x.outcome
 
 -- an operation on a source's word w, after which that is w'
-pub word_steps : (t : Kept) (words : List SourceParts) (z : Start) (h : List Entry) (s actor : ℕ) (p : Op) (o : PqOp) (w w' d : SourceParts) (r : Outcome) →
-    AreParts t words z h → IsPlain t.board → p ≡ op.Pq s o → valid t.board p ≡ true → w ≡ slice_index_or words s d →
-    r ≡ answer_at o w → w' ≡ word_past o w →
-    Steps t words t (slice_set words s w') z h (record { actor = actor; op = p; outcome = r })
-word_steps t words z h s actor p o w w' d r st plain is v found g k =
-    let l : s < z.board.limits.sources = subst (λ (b : Board). s < b.limits.sources) st.tables.board (valid_word t.board p s o is v).0 in
+pub word_steps : (t : Kept) (words : List SourceParts) (z : Start) (h : List Entry) (x : Entry) (s : ℕ) (o : PqOp) (level : Bool) (w w' d : SourceParts) →
+    AreParts t words z h → IsOn z.board x.op s o → s < z.board.limits.sources → level ≡ is_level z.board s → w ≡ slice_index_or words s d →
+    x.outcome ≡ answer_at o level w → w' ≡ word_past o level w →
+    Steps t words t (slice_set words s w') z h x
+word_steps t words z h x s o level w w' d st on l is found answer now =
     let same : w ≡ word_of z h s = read words s z.board.limits.sources w d (word_of z h) st.words l found in
-    let legally : r ≡ legal z h (op.Pq s o) = g ∙ ap (answer_at o) same ∙ word_legal t.board z h s o st.tables.board plain in
-    let consumes : consumed_in r ≡ 0 = ap consumed_in g ∙ word_consumes (cell_at w false o) w.pq w.count in
-    let more = word_notices z h s actor o r l st.forwarded in
-    subst (λ p. Steps t words t (slice_set words s w') z h (record { actor = actor; op = p; outcome = r })) (sym is) (record {
-      outcome = legally;
-      parts = word_parts t words z h s actor o w w' r st l same g k;
+    let consumes : consumed_in x.outcome ≡ 0 = ap consumed_in answer ∙ word_consumes (cell_at w level o) w.pq w.count in
+    let more = word_notices z h x s o on l st.forwarded in
+    record {
+      outcome = answer ∙ ap (answer_at o level) same ∙ word_legal z h x.op s o level on is;
+      parts = word_parts t words z h x s o level w w' st on l same answer now;
       notices = omega (arith, consumes, more);
-    })
+    }
 
 -- the parts after an entry on no word, with the tables after it
 fabric_parts : (t t' : Kept) (words : List SourceParts) (z : Start) (h : List Entry) (x : Entry) → AreParts t words z h →
@@ -74,6 +85,7 @@ fabric_parts t t' words z h x st none after within = record {
   tables = after;
   words = λ q l. st.words q l ∙ ap Some (sym (same q));
   forwarded = λ q. subst (λ n. routes z (x ∷ h) q ≤ n) (sym (forwards-skips z q x h (on_no_word z.board q x.op none))) (within q);
+  idle = st.idle;
 }
   where
     make : ℕ → Bool → ℕ → SourceParts
@@ -113,6 +125,24 @@ quiet_steps t t' words z h x st none unrouted_here consumes forwards_none answer
   parts = fabric_parts t t' words z h x st none stands (λ q. subst (λ n. n ≤ forwards z h q) (sym (unrouted z h x unrouted_here q)) (st.forwarded q));
   notices = let same = quiet_notices z h x none unrouted_here in omega (arith, same, consumes, forwards_none);
 }
+
+-- an access to a page of an END
+pub end_page_steps : (t t' : Kept) (words : List SourceParts) (z : Start) (h : List Entry) (actor e page offset : ℕ) (store : Bool) (p : Op) (u : Outcome) →
+    AreParts t words z h → p ≡ op.EndEsb e page offset store → u ≡ end_page_answer z h e page offset store →
+    TablesStandFor t' z (record { actor = actor; op = op.EndEsb e page offset store; outcome = u } ∷ h) →
+    Steps t words t' words z h (record { actor = actor; op = p; outcome = u })
+end_page_steps t t' words z h actor e page offset store p u st is answer stands =
+    subst (λ p. Steps t words t' words z h (record { actor = actor; op = p; outcome = u })) (sym is)
+    (quiet_steps t t' words z h (record { actor = actor; op = op.EndEsb e page offset store; outcome = u }) st refl refl
+    (ap consumed_in answer ∙ by consumed_in refl refl (λ old new. refl) store (is_valid (end_config z h e)))
+    (ap forwarded_in answer ∙ by forwarded_in refl refl (λ old new. refl) store (is_valid (end_config z h e)))
+    answer stands)
+  where
+    by : (f : Outcome → ℕ) → f out.BadOffset ≡ 0 → f out.NoEnd ≡ 0 → ((old new : ℕ) → f (out.EndPq old new) ≡ 0) → (store valid : Bool) →
+        f (if store then out.BadOffset else (if valid then loaded offset (state_of z h e page) else out.NoEnd)) ≡ 0
+    by f bad none pair true valid = bad
+    by f bad none pair false true = pair (state_of z h e page) (load_row offset (state_of z h e page)).pair
+    by f bad none pair false false = none
 
 -- a SET_SOURCE_CONFIG, which is the hypercall that is valid
 pub call_steps : (t t' : Kept) (words : List SourceParts) (z : Start) (h : List Entry) (actor number : ℕ) (args : List ℕ) (p : Op) (reply : HReply) →

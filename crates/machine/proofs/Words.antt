@@ -1,41 +1,37 @@
--- An entry on the word of a source, on a board whose sources are message sources.
-use Rattle.std.proofs.Common.{ℕ, ◌≡◌, ◌≢◌, ◌==◌, ◌+◌, ◌<◌, true, false, if◌then◌else◌, List, ◌∷◌, Option, Some, None, refl, sym, ◌∙◌, ap, subst, arith, slice_set}
-use Rattle.std.specs.Prelude.{nat_le, ◌&&◌, take}
-use Rattle.std.specs.List.{list_any}
+-- An entry on the word of a source.
+use Rattle.std.proofs.Common.{ℕ, ◌≡◌, ◌≢◌, ◌==◌, ◌+◌, ◌<◌, ◌≤◌, Bool, true, false, not, if◌then◌else◌, List, ◌∷◌, Option, Some, None, refl, sym, ◌∙◌, ap, subst, arith, slice_set}
 use Rattle.std.specs.Option.{option_map_or}
 use Rattle.std.proofs.lemmas.Bool.Decides.{nat_tests}
-use Rattle.xv_model.specs.declared.board.Spans.{Spans}
 use Rattle.xv_model.specs.declared.board.Board.{Board}
 use Rattle.xv_model.specs.declared.operations.PqOp.{PqOp}
-use Rattle.xv_model.specs.declared.operations.PqOp.TheVariants.{Trigger, Eoi, Get, Set, Raise, Lower, Init}
-use Rattle.xv_model.specs.declared.operations.Op.TheVariants as op
+use Rattle.xv_model.specs.declared.operations.Op.{Op}
 use Rattle.xv_model.specs.declared.outcomes.Outcome.{Outcome}
 use Rattle.xv_model.specs.declared.entries.Entry.{Entry}
-use Rattle.xv_model.specs.board.Boards.{is_in, IsPlain}
-use Rattle.xv_model.specs.board.Validity.{valid_pq}
+use Rattle.xv_model.specs.board.Boards.{is_level}
 use Rattle.xv_model.specs.account.Start.{Start}
-use Rattle.xv_model.specs.account.Legal.{answer_by, is_level, legal}
-use Rattle.xv_model.specs.source.PqTable.{Cell, pq_row, flag_after}
-use Rattle.xv_model.specs.source.Pairs.{Touch, Change, pq, asserted, touch_at, touch_by, change_in}
-use Rattle.xv_model.specs.source.Notices.{forwards}
+use Rattle.xv_model.specs.account.Kinds.{Word, access_of, is_fabric, is_quiet, part_beside}
+use Rattle.xv_model.specs.account.Legal.{answer_by, answer_on, legal}
+use Rattle.xv_model.specs.source.PqTable.{Cell, flag_after}
+use Rattle.xv_model.specs.source.Pairs.{Touch, Change, touch_at, touch_by, change_in}
+use Rattle.xv_model.specs.source.Notices.{forwards, routes}
+use Rattle.xv_model.proofs.HalvesLemmas.{routes-skips}
 use Rattle.esb_pq.specs.Word.{SourceParts}
-use Rattle.esb_pq.specs.Rows.{has_op}
 use Rattle.esb_pq.specs.Applied.{cell_at, by_cell, by_table, word_in}
 use Rattle.router.specs.Tables.{Kept}
 use Rattle.router.proofs.Elements.{set_gives}
 use Rattle.router.proofs.Keeping.{word_keeps}
 use Rattle.machine.specs.Machine.{AreParts, word_of}
 
--- an entry on the word of s
-abbrev pub on_word : ℕ → ℕ → PqOp → Outcome → Entry
-on_word actor s o r = record { actor = actor; op = op.Pq s o; outcome = r }
+-- an operation is o on the word of s
+abbrev pub IsOn : Board → Op → ℕ → PqOp → Type 0
+IsOn b p s o = access_of b p ≡ Some (record { source = s; op = o })
 
--- what an operation on a word of a message source answers, and the word after it
-abbrev pub answer_at : PqOp → SourceParts → Outcome
-answer_at o w = answer_by (cell_at w false o) w.pq w.count
+-- what an operation on the word of a level source, or of a message source, answers, and the word after it
+abbrev pub answer_at : PqOp → Bool → SourceParts → Outcome
+answer_at o level w = answer_by (cell_at w level o) w.pq w.count
 
-abbrev pub word_past : PqOp → SourceParts → SourceParts
-word_past o w = word_in w (by_table w false o)
+abbrev pub word_past : PqOp → Bool → SourceParts → SourceParts
+word_past o level w = word_in w (by_table w level o)
 
 -- the touch of q by an operation on s
 abbrev pub touch_by_op : ℕ → ℕ → PqOp → Option Change → Option Touch
@@ -67,45 +63,52 @@ by_none w m e = rw e (ap (make w) (omega arith))
     make : SourceParts → ℕ → SourceParts
     make w n = record { pq = w.pq; asserted = w.asserted; count = n }
 
-pub untouched : (z : Start) (h : List Entry) (s q actor : ℕ) (o : PqOp) (r : Outcome) → q ≢ s →
-    word_of z (on_word actor s o r ∷ h) q ≡ word_of z h q
-untouched z h s q actor o r n =
-    by_none (word_of z h q) (touch_by_op q s o (change_in r)) (touches_none q s o (change_in r) n)
+-- the word of q after an entry on the word of s
+pub word_after : (z : Start) (h : List Entry) (x : Entry) (s q : ℕ) (o : PqOp) → IsOn z.board x.op s o →
+    word_of z (x ∷ h) q ≡ after_touch (word_of z h q) (touch_by_op q s o (change_in x.outcome))
+word_after z h x s q o on = ap (λ m. after_touch (word_of z h q) (touch_at q (touch_by m (change_in x.outcome)))) on
+
+-- the word of another source stays
+pub untouched : (z : Start) (h : List Entry) (x : Entry) (s q : ℕ) (o : PqOp) → IsOn z.board x.op s o → q ≢ s →
+    word_of z (x ∷ h) q ≡ word_of z h q
+untouched z h x s q o on other =
+    word_after z h x s q o on ∙ by_none (word_of z h q) (touch_by_op q s o (change_in x.outcome)) (touches_none q s o (change_in x.outcome) other)
+
+-- an operation on a word isn't the fabric's
+pub on_word : (b : Board) (p : Op) (s : ℕ) (o : PqOp) → IsOn b p s o → is_fabric b p ≡ false
+on_word b p s o on = ap (λ m. option_map_or (λ a. false) m (not (is_quiet p))) on
+
+-- an entry on a word routes nothing
+pub same_routes : (z : Start) (h : List Entry) (x : Entry) (s q : ℕ) (o : PqOp) → IsOn z.board x.op s o → routes z (x ∷ h) q ≡ routes z h q
+same_routes z h x s q o on = routes-skips z q x h (on_word z.board x.op s o on)
+
+-- and takes no forward back
+more_forwards : (z : Start) (h : List Entry) (x : Entry) (q : ℕ) → forwards z h q ≤ forwards z (x ∷ h) q
+more_forwards z h x q = omega arith
 
 -- the parts after an entry on the word of s
-pub word_parts : (t : Kept) (words : List SourceParts) (z : Start) (h : List Entry) (s actor : ℕ) (o : PqOp)
-    (w w' : SourceParts) (r : Outcome) → AreParts t words z h → s < z.board.limits.sources →
-    w ≡ word_of z h s → r ≡ answer_at o w → w' ≡ word_past o w →
-    AreParts t (slice_set words s w') z (on_word actor s o r ∷ h)
-word_parts t words z h s actor o w w' r st l e g k = record {
-  tables = word_keeps t z h s actor o r st.tables;
-  words = set_gives words s z.board.limits.sources w' (word_of z h) (word_of z (on_word actor s o r ∷ h)) st.words l mine
-      (λ q other. untouched z h s q actor o r other);
-  forwarded = λ q. let before = st.forwarded q in omega arith;
+pub word_parts : (t : Kept) (words : List SourceParts) (z : Start) (h : List Entry) (x : Entry) (s : ℕ) (o : PqOp) (level : Bool)
+    (w w' : SourceParts) → AreParts t words z h → IsOn z.board x.op s o → s < z.board.limits.sources →
+    w ≡ word_of z h s → x.outcome ≡ answer_at o level w → w' ≡ word_past o level w →
+    AreParts t (slice_set words s w') z (x ∷ h)
+word_parts t words z h x s o level w w' st on l same answer now = record {
+  tables = word_keeps t z h x (on_word z.board x.op s o on) st.tables;
+  words = set_gives words s z.board.limits.sources w' (word_of z h) (word_of z (x ∷ h)) st.words l mine
+      (λ q other. untouched z h x s q o on other);
+  forwarded = λ q.
+      let before = st.forwarded q in
+      let more = more_forwards z h x q in
+      let routed = same_routes z h x s q o on in omega (arith, before, more, routed);
+  idle = st.idle;
 }
   where
-    mine : w' ≡ word_of z (on_word actor s o r ∷ h) s
-    mine = k ∙ ap (word_past o) e ∙ touched (cell_at (word_of z h s) false o) o s (word_of z h s)
-        ∙ ap (λ r. word_of z (on_word actor s o r ∷ h) s) (sym (g ∙ ap (answer_at o) e))
-
--- no number is in no ranges
-in_none : (spans : Spans) (n : ℕ) → spans.count ≡ 0 → is_in spans n ≡ false
-in_none spans n e =
-    subst (λ count. list_any (λ span. nat_le span.first n && nat_le n span.last) (take count spans.spans) ≡ false) (sym e) refl
+    mine : w' ≡ word_of z (x ∷ h) s
+    mine = now ∙ ap (word_past o level) same ∙ touched (cell_at (word_of z h s) level o) o s (word_of z h s)
+        ∙ ap (λ u. after_touch (word_of z h s) (touch_by_op s s o (change_in u))) (sym (answer ∙ ap (answer_at o level) same))
+        ∙ sym (word_after z h x s s o on)
 
 -- what an operation on a source's word answers is legal
-pub word_legal : (b : Board) (z : Start) (h : List Entry) (s : ℕ) (o : PqOp) → b ≡ z.board → IsPlain b →
-    answer_at o (word_of z h s) ≡ legal z h (op.Pq s o)
-word_legal b z h s o same plain =
-    let level : is_level z.board s ≡ false = in_none z.board.level s (subst (λ (b : Board). b.level.count ≡ 0) same plain.level) in
-    sym (ap (λ level. answer_by (pq_row o level (asserted z h s) (pq z h s)) (pq z h s) (forwards z h s)) level)
-
--- a message source has each valid operation
-pub has_valid : (o : PqOp) → valid_pq o ≡ true → has_op false o ≡ true
-has_valid Trigger v = refl
-has_valid Eoi v = refl
-has_valid Get v = refl
-has_valid (Set new) v = v
-has_valid Raise v = v
-has_valid Lower v = v
-has_valid (Init a) v = cc
+pub word_legal : (z : Start) (h : List Entry) (p : Op) (s : ℕ) (o : PqOp) (level : Bool) → IsOn z.board p s o → level ≡ is_level z.board s →
+    answer_at o level (word_of z h s) ≡ legal z h p
+word_legal z h p s o level on is =
+    ap (λ level. answer_at o level (word_of z h s)) is ∙ sym (ap (λ m. answer_on z h p (option_map_or Word m (part_beside p))) on)

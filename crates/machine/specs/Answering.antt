@@ -1,7 +1,14 @@
--- What an outcome does to the notices that are outstanding.
-use Rattle.std.specs.Prelude.{ℕ, ◌==◌, if◌then◌else◌}
+-- What a step goes by: how a source answers accesses to its pages, and what an outcome does to the notices that are
+-- outstanding.
+use Rattle.std.specs.Prelude.{ℕ, ◌==◌, Bool, if◌then◌else◌}
+use Rattle.xv_model.specs.declared.board.Board.{Board}
 use Rattle.xv_model.specs.declared.outcomes.Outcome.{Outcome}
 use Rattle.xv_model.specs.declared.outcomes.Outcome.TheVariants as out
+use Rattle.esb_mmio.specs.declared.pages.SourceKind.{SourceKind}
+
+-- the kind of a source of a board that is a level source or not
+abbrev pub kind_on : Board → Bool → SourceKind
+kind_on b level = record { level = level; two_pages = b.two_pages; store_eoi = b.store_eoi }
 
 -- how many notices an outcome makes
 abbrev pub forwarded_in : Outcome → ℕ

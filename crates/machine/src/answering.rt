@@ -1,42 +1,59 @@
 //! What an operation answers, and what it does to the router's tables and to its source's word.
 
-ghost use Rattle.std.specs.Prelude.{◌≡◌, ◌+◌, ◌≤◌, ◌∷◌, ℕ, All, length, List, IsTrue, false};
+ghost use Rattle.std.specs.Prelude.{◌≡◌, ◌+◌, ◌≤◌, ◌∷◌, ℕ, All, length, List, IsTrue};
 ghost use Rattle.xv_model.specs.declared.entries.Entry.{Entry};
-ghost use Rattle.xv_model.specs.board.Boards.{IsPlain};
 ghost use Rattle.xv_model.specs.account.Start.{Start};
 ghost use Rattle.xv_model.specs.source.Notices.{all_outstanding};
 ghost use Rattle.xv_model.specs.account.Legal.{answer_by, legal};
 ghost use Rattle.xv_model.specs.account.Outcomes.{IsWellFormed};
-ghost use Rattle.xv_model.specs.board.Validity.{valid};
-ghost use Rattle.esb_pq.specs.Rows.{has_op};
+ghost use Rattle.xv_model.specs.board.Validity.{has_op, valid};
 ghost use Rattle.esb_pq.specs.Applied.{cell_at, by_table, word_in};
 ghost use Rattle.router.specs.Ends.{HasRoom, HasCountsAtMost};
-ghost use Rattle.machine.specs.Answering.{forwarded_in, consumed_in};
-ghost use Rattle.machine.specs.Machine.{AreParts};
+ghost use Rattle.machine.specs.Answering.{forwarded_in, consumed_in, kind_on};
+ghost use Rattle.machine.specs.Machine.{AreLevels, AreParts};
 
+use esb_mmio::{BadOffset, EsbOp, SourceKind, decode};
 use esb_pq::{SourceWord, apply, outcome_of, word_after};
 use router::tables::Tables;
+use xv_model::board::Board;
 use xv_model::operations::{Op, PqOp};
 use xv_model::outcomes::Outcome;
 
-/// Does an operation to the word of a message source, and says what it answers.
-fn touch(word: &mut SourceWord, op: PqOp) -> Outcome
-    requires { IsTrue (has_op false op) }
-    ensures outcome { result ≡ answer_by (cell_at word.old false op) word.old.pq word.old.count }
-    ensures word { word.new ≡ word_in word.old (by_table word.old false op) }
+/// Does an operation to the word of a source, which is a level source or not, and says what it answers.
+fn touch(word: &mut SourceWord, level: bool, op: PqOp) -> Outcome
+    requires { IsTrue (has_op level op) }
+    ensures outcome { result ≡ answer_by (cell_at word.old level op) word.old.pq word.old.count }
+    ensures word { word.new ≡ word_in word.old (by_table word.old level op) }
     ensures well_formed { IsWellFormed result }
 {
     let old = *word;
-    let applied = apply(old, false, op);
+    let applied = apply(old, level, op);
     *word = word_after(old, &applied);
     outcome_of(old, &applied)
 }
 
+/// What decides how a source of a board answers accesses to its pages.
+fn kind_of(board: &Board, level: bool) -> SourceKind
+    ensures { result ≡ kind_on board.now level }
+{
+    SourceKind {
+        level,
+        two_pages: board.two_pages,
+        store_eoi: board.store_eoi,
+    }
+}
+
 /// What an operation answers. The tables and the words then represent the account with that entry.
-pub(crate) fn answer(tables: &mut Tables, words: &mut [SourceWord], op: &Op) -> Outcome
+pub(crate) fn answer(
+    tables: &mut Tables,
+    words: &mut [SourceWord],
+    levels: &[bool],
+    op: &Op,
+) -> Outcome
     requires op { IsTrue (valid tables.old.board op.now) }
-    requires plain { IsPlain tables.old.board }
     requires words { length words.old ≡ tables.old.board.limits.sources }
+    requires sources { length levels.now ≡ tables.old.board.limits.sources }
+    requires levels { AreLevels tables.old.board levels.now }
     requires room { All HasRoom tables.old.ends }
     ensures outcome { (z : Start) (h : List Entry)
         → AreParts tables.old words.old z h → result ≡ legal z h op.now }
@@ -54,7 +71,26 @@ pub(crate) fn answer(tables: &mut Tables, words: &mut [SourceWord], op: &Op) -> 
     ensures len { length words.new ≡ length words.old }
 {
     match op {
-        Op::Pq { s, op } => touch(&mut words[*s as usize], *op),
+        Op::Pq { s, op } => touch(&mut words[*s as usize], levels[*s as usize], *op),
+        Op::Esb {
+            s,
+            page,
+            offset,
+            store,
+        } => {
+            let kind = kind_of(tables.board(), levels[*s as usize]);
+            match decode(*page, *offset, *store, kind) {
+                Ok(EsbOp::Pq { op }) => touch(&mut words[*s as usize], kind.level, op),
+                Ok(EsbOp::Ones) => Outcome::Ones,
+                Err(BadOffset) => Outcome::BadOffset,
+            }
+        }
+        Op::EndEsb {
+            e,
+            page,
+            offset,
+            store,
+        } => tables.access_end(*e, *page, *offset, *store),
         Op::Route { s } => tables.route(*s, words[*s as usize].count()),
         Op::EndSet { e, config } => {
             tables.configure(*e, config);

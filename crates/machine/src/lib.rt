@@ -9,10 +9,11 @@
 
 mod answering;
 mod known;
+mod levels;
 mod machine;
 #[cfg(test)]
 mod tests;
 mod views;
 
 pub use machine::Machine;
-pub use views::{QueueView, SourceView};
+pub use views::{ProcessorView, QueueView, RingView, SourceView};

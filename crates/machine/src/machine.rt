@@ -1,18 +1,19 @@
-//! A machine of a board without level sources and without unconnected processors.
+//! A machine of a board.
 
 ghost use Rattle.std.specs.Prelude.{◌≡◌, ◌+◌, ◌*◌, ◌^◌, ◌<◌, ◌≤◌, ◌∷◌, [], length, List, IsTrue, IfOk};
 ghost use Rattle.xv_base.specs.Limits.{ends_per_processor, most_entries, most_messages};
 ghost use Rattle.xv_model.specs.declared.entries.Entry.{Entry as AnEntry};
-ghost use Rattle.xv_model.specs.board.Boards.{IsBoard, IsPlain};
+ghost use Rattle.xv_model.specs.board.Boards.{IsBoard};
 ghost use Rattle.xv_model.specs.account.Start.{Start, start};
 ghost use Rattle.xv_model.specs.account.Legal.{legal};
 ghost use Rattle.xv_model.specs.account.Outcomes.{IsWellFormed};
 ghost use Rattle.xv_model.specs.board.Validity.{valid};
 ghost use Rattle.machine.specs.Machine.{StandsFor};
-ghost use Rattle.machine.specs.Views.{IsQueue, source_view, queue_view};
+ghost use Rattle.machine.specs.Views.{IsQueue, source_view, queue_view, processor_view, free_ring};
 
 use crate::answering::{answer, consumed_by, notices_of};
-use crate::views::{QueueView, SourceView};
+use crate::levels::levels_of;
+use crate::views::{ProcessorView, QueueView, RingView, SourceView};
 use esb_pq::SourceWord;
 use router::tables::Tables;
 use std::alloc::Global;
@@ -21,22 +22,23 @@ use xv_base::NoMemory;
 use xv_model::board::Board;
 use xv_model::entries::Entry;
 use xv_model::operations::Op;
+use xv_model::outcomes::Phase;
 
-/// The state of a board: the router's tables, a word for each source, how many entries were made,
-/// and how many notices are outstanding.
+/// The state of a board: the router's tables, a word for each source and whether it is a level
+/// source, how many entries were made, and how many notices are outstanding.
 #[derive(Drop)]
 pub struct Machine {
     pub(crate) tables: Tables,
     pub(crate) words: Vec<SourceWord>,
+    levels: Vec<bool>,
     count: u64,
     notices: u64,
 }
 
 impl Model for Machine {
     ghost use Rattle.std.specs.Prelude.{◌≡◌, ◌≤◌, vec_len, All};
-    ghost use Rattle.xv_model.specs.board.Boards.{IsPlain};
     ghost use Rattle.router.specs.Ends.{HasCountsAtMost};
-    ghost use Rattle.machine.specs.Machine.{Held};
+    ghost use Rattle.machine.specs.Machine.{Held, AreLevels};
 
     ghost Value = { Held };
 
@@ -47,8 +49,9 @@ impl Model for Machine {
       notices = m.notices;
     } };
 
-    ghost invariant = { λ m. IsPlain m.tables.board
-        × (vec_len m.words ≡ m.tables.board.limits.sources)
+    ghost invariant = { λ m. (vec_len m.words ≡ m.tables.board.limits.sources)
+        × (vec_len m.levels ≡ m.tables.board.limits.sources)
+        × AreLevels m.tables.board m.levels.items
         × (m.notices ≤ m.count) × All (HasCountsAtMost m.count) m.tables.ends };
 }
 
@@ -57,7 +60,6 @@ impl Machine {
     /// when. No other call takes memory.
     pub fn build(alloc: Global, board: &Board) -> Result<Machine, NoMemory>
         requires board { IsBoard board.now }
-        requires plain { IsPlain board.now }
         ensures board { IfOk result (λ m. m.tables.board ≡ board.now) }
         ensures count { IfOk result (λ m. m.count ≡ 0) }
         ensures stands { IfOk result (λ m. StandsFor m (start board.now) []) }
@@ -65,6 +67,7 @@ impl Machine {
         Ok(Machine {
             tables: Tables::build(alloc, board)?,
             words: vec![in alloc; SourceWord::off(); board.limits.sources as usize]?,
+            levels: levels_of(alloc, board)?,
             count: 0,
             notices: 0,
         })
@@ -74,7 +77,6 @@ impl Machine {
     pub fn board(&self) -> &Board
         ensures value { result.now ≡ self.now.tables.board }
         ensures board { IsBoard result.now }
-        ensures plain { IsPlain result.now }
     {
         self.tables.board()
     }
@@ -127,6 +129,36 @@ impl Machine {
         }
     }
 
+    /// A processor. No operation that is built moves its context, so it is as at the start.
+    pub fn processor(&self, v: u32) -> ProcessorView
+        requires { v < self.now.tables.board.limits.processors }
+        ensures { (z : Start) (h : List AnEntry)
+            → StandsFor self.now z h → result ≡ processor_view z h v }
+    {
+        ProcessorView {
+            connected: !self.board().unconnected.has(v),
+            phase: Phase::Saved,
+            cppr: 0,
+            ipb: 0,
+            backlog: 0,
+        }
+    }
+
+    /// The OS ring of a thread. No operation that is built uses one, so it is free.
+    pub fn ring(&self, t: u32) -> RingView
+        requires { t < self.now.tables.board.limits.threads }
+        ensures { result ≡ free_ring }
+    {
+        let _ = t;
+        RingView {
+            nsr: 0,
+            cppr: 0,
+            ipb: 0,
+            pipr: 0xff,
+            cam: 0,
+        }
+    }
+
     /// How many messages are in flight.
     pub fn flight(&self) -> u32
         ensures value { result ≡ length self.now.tables.messages }
@@ -150,7 +182,7 @@ impl Machine {
         ensures stands { (z : Start) (h : List AnEntry)
             → StandsFor self.old z h → StandsFor self.new z (result ∷ h) }
     {
-        let outcome = answer(&mut self.tables, &mut self.words, op);
+        let outcome = answer(&mut self.tables, &mut self.words, &self.levels, op);
         self.count += 1;
         // A notice that is consumed was outstanding.
         self.notices = (self.notices + notices_of(&outcome)).saturating_sub(consumed_by(&outcome));

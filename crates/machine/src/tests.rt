@@ -1,9 +1,9 @@
 //! A program that owns a machine and steps it, without a script and without a printer.
 
 ghost use Rattle.std.specs.Prelude.{◌+◌, ◌<◌, ◌^◌, ◌≡◌};
-ghost use Rattle.xv_model.specs.board.Boards.{IsBoard, IsPlain, AreBelow};
+ghost use Rattle.xv_model.specs.board.Boards.{IsBoard, AreBelow};
 
-use crate::{Machine, QueueView, SourceView};
+use crate::{Machine, ProcessorView, QueueView, SourceView};
 use std::process::Abort;
 use std::test::Fail;
 use xv_base::Limits;
@@ -12,14 +12,8 @@ use xv_model::board::{Board, Span, Spans};
 use xv_model::hypercalls::{H_INT_SET_SOURCE_CONFIG, SRC_SET_EISN};
 use xv_model::known::Known;
 use xv_model::operations::{EndConfig, EndFlags, Op, PqOp};
-use xv_model::outcomes::{EndRun, Outcome, Routed, Then};
+use xv_model::outcomes::{EndRun, Outcome, Phase, Routed, Then};
 use xv_model::validity::valid;
-
-/// No numbers.
-const NONE: Spans = Spans {
-    count: 0,
-    spans: [Span { first: 0, last: 0 }; 16],
-};
 
 /// One number.
 fn only(n: u32) -> Spans
@@ -30,31 +24,30 @@ fn only(n: u32) -> Spans
     Spans { count: 1, spans }
 }
 
-/// Three sources, of which source 2 is unclaimed, one processor and 1 MiB of memory.
+/// Four sources, of which source 2 is unclaimed and source 3 is a level source, two processors, of which
+/// processor 1 isn't connected, and 1 MiB of memory.
 fn small_board() -> Board
-    ensures board { IsBoard result }
-    ensures plain { IsPlain result }
+    ensures { IsBoard result }
 {
     Board {
         limits: Limits {
-            sources: 3,
-            processors: 1,
+            sources: 4,
+            processors: 2,
             threads: 1,
             actors: 2,
         },
         ram_mib: 1,
         two_pages: true,
         store_eoi: false,
-        level: NONE,
+        level: only(3),
         unclaimed: only(2),
-        unconnected: NONE,
+        unconnected: only(1),
     }
 }
 
 /// The largest counts of everything. Source 8,190 is unclaimed.
 fn largest_board() -> Board
-    ensures board { IsBoard result }
-    ensures plain { IsPlain result }
+    ensures { IsBoard result }
 {
     Board {
         limits: Limits {
@@ -66,9 +59,9 @@ fn largest_board() -> Board
         ram_mib: 64,
         two_pages: true,
         store_eoi: true,
-        level: NONE,
+        level: only(8191),
         unclaimed: only(8190),
-        unconnected: NONE,
+        unconnected: Spans::NONE,
     }
 }
 
@@ -238,7 +231,7 @@ fn a_queue_and_its_views(rt: HostRuntime) -> Result<(), Fail> {
     assert_eq!(rt; queue.taken, 0);
     assert_eq!(rt; queue.esn, 2);
     assert_eq!(rt; queue.ese, 0);
-    assert_eq!(rt; m.board().limits.sources, 3);
+    assert_eq!(rt; m.board().limits.sources, 4);
     Ok(())
 }
 
@@ -263,5 +256,118 @@ fn the_largest_board(rt: HostRuntime) -> Result<(), Fail> {
     assert_eq!(rt; source(&rt, m, 0).pq, 1);
     assert_eq!(rt; m.notices(), 0);
     assert_eq!(rt; m.count(), 11);
+    Ok(())
+}
+
+/// A load, or a store, at an offset of a page of a source.
+fn access(s: u32, page: u8, offset: u16, store: bool) -> Op {
+    Op::Esb {
+        s,
+        page,
+        offset,
+        store,
+    }
+}
+
+/// A load at an offset of a page of END 0.
+fn end_load(page: u8, offset: u16) -> Op {
+    Op::EndEsb {
+        e: 0,
+        page,
+        offset,
+        store: false,
+    }
+}
+
+#[test]
+fn a_line_that_is_still_up_at_the_eoi(rt: HostRuntime) -> Result<(), Fail> {
+    let board = small_board();
+    let mut machine = Machine::build(rt.alloc(), &board)?;
+    let m = &mut machine;
+    let line = |op: PqOp| Op::Pq { s: 3, op };
+    step(&rt, m, &set(3));
+    assert!(rt; changed(&step(&rt, m, &line(PqOp::Raise)), 0, 2, 1));
+    assert!(rt; source(&rt, m, 3).asserted);
+    assert!(rt; changed(&step(&rt, m, &eoi(3)), 2, 2, 2));
+    assert!(rt; changed(&step(&rt, m, &trigger(3)), 2, 2, 0));
+    assert!(rt; changed(&step(&rt, m, &line(PqOp::Lower)), 2, 2, 0));
+    assert!(rt; !source(&rt, m, 3).asserted);
+    assert!(rt; changed(&step(&rt, m, &eoi(3)), 2, 0, 0));
+    assert!(rt; changed(&step(&rt, m, &line(PqOp::Init { asserted: true })), 0, 1, 0));
+    assert!(rt; source(&rt, m, 3).asserted);
+    assert_eq!(rt; m.notices(), 2);
+    Ok(())
+}
+
+#[test]
+fn an_interrupt_by_loads_and_stores(rt: HostRuntime) -> Result<(), Fail> {
+    let board = small_board();
+    let mut machine = Machine::build(rt.alloc(), &board)?;
+    let m = &mut machine;
+    assert!(rt; changed(&step(&rt, m, &access(0, 1, 0xc00, false)), 1, 0, 0));
+    assert!(rt; changed(&step(&rt, m, &access(0, 0, 0x123, true)), 0, 2, 1));
+    assert!(rt; changed(&step(&rt, m, &access(0, 1, 0x800, false)), 2, 2, 0));
+    assert!(rt; changed(&step(&rt, m, &access(0, 1, 0, true)), 2, 3, 0));
+    assert!(rt; matches!(step(&rt, m, &access(0, 0, 0, false)), Outcome::Ones));
+    assert!(rt; matches!(step(&rt, m, &access(0, 1, 0x400, true)), Outcome::BadOffset));
+    assert!(rt; changed(&step(&rt, m, &access(0, 1, 0x7ff, false)), 3, 2, 2));
+    assert_eq!(rt; source(&rt, m, 0).forwards, 2);
+    assert_eq!(rt; m.notices(), 2);
+    Ok(())
+}
+
+/// Whether a load found the state `from` of an END and left it as `to`.
+fn loaded(outcome: &Outcome, from: u8, to: u8) -> bool {
+    match *outcome {
+        Outcome::EndPq { old, new } => old == from && new == to,
+        _ => false,
+    }
+}
+
+#[test]
+fn an_eoi_of_an_end(rt: HostRuntime) -> Result<(), Fail> {
+    let board = small_board();
+    let mut machine = Machine::build(rt.alloc(), &board)?;
+    let m = &mut machine;
+    assert!(rt; matches!(step(&rt, m, &end_load(0, 0)), Outcome::NoEnd));
+    let config = end(0, 0, 0, 0);
+    step(&rt, m, &Op::EndSet { e: 0, config });
+    step(&rt, m, &target(0, 0, 0, 0x10));
+    step(&rt, m, &set(0));
+    step(&rt, m, &trigger(0));
+    assert!(rt; presented(routed(&rt, m, 0), 1, 0, false));
+    assert_eq!(rt; queue(&rt, m, 0).esn, 2);
+    assert!(rt; loaded(&step(&rt, m, &end_load(0, 0x800)), 2, 2));
+    assert!(rt; loaded(&step(&rt, m, &end_load(0, 0)), 2, 0));
+    assert!(rt; loaded(&step(&rt, m, &end_load(1, 0xd00)), 0, 1));
+    assert_eq!(rt; queue(&rt, m, 0).esn, 0);
+    assert_eq!(rt; queue(&rt, m, 0).ese, 1);
+    assert_eq!(rt; m.flight(), 1);
+    Ok(())
+}
+
+/// A processor, after it was asked whether the board has it.
+fn processor(rt: &impl Abort, machine: &Machine, v: u32) -> ProcessorView {
+    assert!(rt; v < machine.board().limits.processors);
+    machine.processor(v)
+}
+
+#[test]
+fn processors_and_rings_as_at_the_start(rt: HostRuntime) -> Result<(), Fail> {
+    let board = small_board();
+    let mut machine = Machine::build(rt.alloc(), &board)?;
+    let m = &mut machine;
+    let connected = processor(&rt, m, 0);
+    assert!(rt; connected.connected);
+    assert!(rt; matches!(connected.phase, Phase::Saved));
+    assert_eq!(rt;
+        (connected.cppr, connected.ipb, connected.backlog),
+        (0, 0, 0)
+    );
+    assert!(rt; !processor(&rt, m, 1).connected);
+    assert!(rt; 0 < m.board().limits.threads);
+    let ring = m.ring(0);
+    assert_eq!(rt; (ring.nsr, ring.cppr, ring.ipb, ring.pipr), (0, 0, 0, 0xff));
+    assert_eq!(rt; ring.cam, 0);
     Ok(())
 }

@@ -1,20 +1,54 @@
-use Rattle.std.proofs.Common.{ℕ, List, slice_index_or, slice_set, subst, sym, refl}
+use Rattle.std.proofs.Common.{ℕ, ◌≡◌, ◌<◌, List, Ok, slice_index_or, slice_set, subst, sym, refl, ◌∙◌, ap}
+use Rattle.xv_model.specs.declared.board.Board.{Board}
 use Rattle.xv_model.specs.declared.operations.Op.{Op}
 use Rattle.xv_model.specs.declared.operations.Op.TheVariants as op
 use Rattle.xv_model.specs.declared.outcomes.Outcome.TheVariants as out
 use Rattle.xv_model.specs.declared.entries.Entry.{Entry}
+use Rattle.xv_model.specs.board.Boards.{is_level}
 use Rattle.xv_model.specs.account.Start.{Start}
+use Rattle.xv_model.specs.account.Kinds.{access_of}
+use Rattle.esb_mmio.specs.declared.pages.SourceKind.{SourceKind}
 use Rattle.router.proofs.Ranges.{one_more_in_all}
 use Rattle.machine.specs.Machine.{AreParts}
-use Rattle.machine.proofs.Stepping.{Steps, word_steps, route_steps, quiet_steps, call_steps}
+use Rattle.machine.proofs.Accesses.{kind_moves, decoded_on}
+use Rattle.machine.proofs.Stepping.{Steps, valid_word, valid_page, word_steps, end_page_steps, route_steps, quiet_steps, call_steps}
 use Rattle.machine.proofs.answering.answer.Goals as goal
 
 word : (c : goal.After-touch) (z : Start) (h : List Entry) (actor : ℕ) → AreParts c.args.tables.now c.args.words.now z h →
     Steps c.args.tables.now c.args.words.now c.args.tables.now (slice_set c.args.words.now c.in-Pq.s c.touch.new.word) z h
     (record { actor = actor; op = c.args.op.now; outcome = c.touch.result })
 word c z h actor st =
-    word_steps c.args.tables.now c.args.words.now z h c.in-Pq.s actor c.args.op.now c.in-Pq.op (slice_index_or c.args.words.now c.in-Pq.s c.index-words-s.result) c.touch.new.word
-    c.index-words-s.result c.touch.result st c.requires.plain c.in-Pq.is c.requires.op refl c.touch.ensures.outcome c.touch.ensures.word
+    let s = c.in-Pq.s in
+    let b = st.tables.board in
+    let below = (valid_word c.args.tables.now.board c.args.op.now s c.in-Pq.op c.in-Pq.is c.requires.op).0 in
+    let inside = subst (λ (b : Board). s < b.limits.sources) b below in
+    let on = ap (access_of z.board) c.in-Pq.is in
+    let level = c.requires.levels s _ (subst (λ n. s < n) (sym c.requires.sources) below) ∙ ap (λ (b : Board). is_level b s) b in
+    word_steps c.args.tables.now c.args.words.now z h (record { actor = actor; op = c.args.op.now; outcome = c.touch.result }) s c.in-Pq.op _
+    (slice_index_or c.args.words.now s c.index-words-s.result) c.touch.new.word
+    c.index-words-s.result st on inside level refl c.touch.ensures.outcome c.touch.ensures.word
+
+page : (c : goal.After-touch-in-Ok-Pq) (z : Start) (h : List Entry) (actor : ℕ) → AreParts c.args.tables.now c.args.words.now z h →
+    Steps c.args.tables.now c.args.words.now c.args.tables.now (slice_set c.args.words.now c.in-Esb.s c.touch-in-Ok-Pq.new.word) z h
+    (record { actor = actor; op = c.args.op.now; outcome = c.touch-in-Ok-Pq.result })
+page c z h actor st =
+    let s = c.in-Esb.s in
+    let b = st.tables.board in
+    let below = valid_page c.args.tables.now.board c.args.op.now s c.in-Esb.page c.in-Esb.offset c.in-Esb.store c.in-Esb.is c.requires.op in
+    let inside = subst (λ (b : Board). s < b.limits.sources) b below in
+    let kind = kind_moves c.kind_of-kind.result _ z.board _ c.kind_of-kind.ensures (c.board.ensures.value ∙ b) in
+    let on = decoded_on z.board c.kind_of-kind.result _ c.args.op.now s c.in-Esb.page c.in-Esb.offset c.in-Esb.store c.in-Ok-Pq.op kind c.in-Esb.is (sym c.decode.ensures.table ∙ c.in-Ok-Pq.is ∙ ap Ok c.in-Ok-Pq.field-0-is) in
+    let level = ap (λ (k : SourceKind). k.level) c.kind_of-kind.ensures ∙ c.requires.levels s _ (subst (λ n. s < n) (sym c.requires.sources) below) ∙ ap (λ (b : Board). is_level b s) b in
+    word_steps c.args.tables.now c.args.words.now z h (record { actor = actor; op = c.args.op.now; outcome = c.touch-in-Ok-Pq.result }) s c.in-Ok-Pq.op c.kind_of-kind.result.level
+    (slice_index_or c.args.words.now s c.index-words-s-in-Ok-Pq.result) c.touch-in-Ok-Pq.new.word
+    c.index-words-s-in-Ok-Pq.result st on inside level refl c.touch-in-Ok-Pq.ensures.outcome c.touch-in-Ok-Pq.ensures.word
+
+end_page : (c : goal.After-access_end) (z : Start) (h : List Entry) (actor : ℕ) → AreParts c.args.tables.now c.args.words.now z h →
+    Steps c.args.tables.now c.args.words.now c.access_end.new.self c.args.words.now z h
+    (record { actor = actor; op = c.args.op.now; outcome = c.access_end.result })
+end_page c z h actor st =
+    end_page_steps c.args.tables.now c.access_end.new.self c.args.words.now z h actor c.in-EndEsb.e c.in-EndEsb.page c.in-EndEsb.offset c.in-EndEsb.store
+    c.args.op.now c.access_end.result st c.in-EndEsb.is (c.access_end.ensures.outcome z h st.tables) (c.access_end.ensures.stands z h actor st.tables)
 
 route : (c : goal.After-route) (z : Start) (h : List Entry) (actor : ℕ) → AreParts c.args.tables.now c.args.words.now z h →
     Steps c.args.tables.now c.args.words.now c.route.new.self c.args.words.now z h
@@ -52,6 +86,24 @@ returns-in-Pq-clause-parts c = λ z h actor st. (word c z h actor st).parts
 pub returns-in-Pq-clause-notices : goal.returns-in-Pq-clause-notices
 returns-in-Pq-clause-notices c = λ z h actor st. (word c z h actor st).notices
 
+pub returns-in-Ok-Pq-clause-outcome : goal.returns-in-Ok-Pq-clause-outcome
+returns-in-Ok-Pq-clause-outcome c = λ z h st. (page c z h 0 st).outcome
+
+pub returns-in-Ok-Pq-clause-parts : goal.returns-in-Ok-Pq-clause-parts
+returns-in-Ok-Pq-clause-parts c = λ z h actor st. (page c z h actor st).parts
+
+pub returns-in-Ok-Pq-clause-notices : goal.returns-in-Ok-Pq-clause-notices
+returns-in-Ok-Pq-clause-notices c = λ z h actor st. (page c z h actor st).notices
+
+pub returns-in-EndEsb-clause-parts : goal.returns-in-EndEsb-clause-parts
+returns-in-EndEsb-clause-parts c = λ z h actor st. (end_page c z h actor st).parts
+
+pub returns-in-EndEsb-clause-notices : goal.returns-in-EndEsb-clause-notices
+returns-in-EndEsb-clause-notices c = λ z h actor st. (end_page c z h actor st).notices
+
+pub returns-in-EndEsb-clause-counts : goal.returns-in-EndEsb-clause-counts
+returns-in-EndEsb-clause-counts c = λ n all. one_more_in_all n c.access_end.new.self.ends (c.access_end.ensures.counts n all)
+
 pub returns-in-Route-clause-outcome : goal.returns-in-Route-clause-outcome
 returns-in-Route-clause-outcome c = λ z h st. (route c z h 0 st).outcome
 
@@ -64,20 +116,11 @@ returns-in-Route-clause-notices c = λ z h actor st. (route c z h actor st).noti
 pub returns-in-EndSet-clause-parts : goal.returns-in-EndSet-clause-parts
 returns-in-EndSet-clause-parts c = λ z h actor st. (configure c z h actor st).parts
 
-pub returns-in-EndSet-clause-notices : goal.returns-in-EndSet-clause-notices
-returns-in-EndSet-clause-notices c = λ z h actor st. (configure c z h actor st).notices
-
 pub returns-in-EndSet-clause-counts : goal.returns-in-EndSet-clause-counts
 returns-in-EndSet-clause-counts c = λ n all. one_more_in_all n c.configure.new.self.ends (c.configure.ensures.counts n all)
 
 pub returns-in-Hcall-clause-parts : goal.returns-in-Hcall-clause-parts
 returns-in-Hcall-clause-parts c = λ z h actor st. (call c z h actor st).parts
-
-pub returns-in-Hcall-clause-notices : goal.returns-in-Hcall-clause-notices
-returns-in-Hcall-clause-notices c = λ z h actor st. (call c z h actor st).notices
-
-pub returns-in-Hcall-clause-outcome : goal.returns-in-Hcall-clause-outcome
-returns-in-Hcall-clause-outcome c = λ z h st. (call c z h 0 st).outcome
 
 pub returns-in-Hcall-clause-counts : goal.returns-in-Hcall-clause-counts
 returns-in-Hcall-clause-counts c = λ n all. one_more_in_all n c.set_source_config.new.self.ends (c.set_source_config.ensures.counts n all)

@@ -3,10 +3,9 @@ use Rattle.std.specs.Vec.{with_items}
 use Rattle.std.proofs.lemmas.List.{with_items_is}
 use Rattle.xv_model.specs.declared.board.Board.{Board}
 use Rattle.xv_model.specs.declared.entries.Entry.{Entry}
-use Rattle.xv_model.specs.board.Boards.{IsPlain}
 use Rattle.esb_pq.specs.Word.{SourceParts}
 use Rattle.machine.specs.Answering.{forwarded_in}
-use Rattle.machine.specs.Machine.{Held, AreParts, StandsFor}
+use Rattle.machine.specs.Machine.{Held, AreLevels, AreParts, StandsFor}
 use Rattle.machine.proofs.Stepping.{stands_after}
 use Rattle.machine.proofs.machine.Machine.step.Goals as goal
 
@@ -14,9 +13,10 @@ pub invariant_of-self : goal.invariant_of-self
 invariant_of-self c =
     let i = c.self.invariant in
     let board = c.answer-outcome.ensures.board in
+    let same = sym (ap (λ (b : Board). b.limits.sources) board) in
     let few = c.notices_of.ensures.few in
     let left = c.saturating_sub-self-inside.ensures in
-    (subst (λ (b : Board). IsPlain b) (sym board) i.0, i.1 ∙ sym (ap (λ (b : Board). b.limits.sources) board), omega (arith, few, left), c.answer-outcome.ensures.counts c.self.inside.count i.3)
+    (i.0 ∙ same, i.1 ∙ same, subst (λ (b : Board). AreLevels b c.self.inside.levels.items) (sym board) i.2, omega (arith, few, left), c.answer-outcome.ensures.counts c.self.inside.count i.4)
 
 pub returns-clause-stands : goal.returns-clause-stands
 returns-clause-stands c = λ z h before.
