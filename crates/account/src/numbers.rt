@@ -34,7 +34,10 @@ pub fn add<const CAP: usize>(text: &mut ArrayVec<u8, CAP>, bytes: &[u8])
     ensures items { text.new.items ≡ text.old.items ++ bytes.now }
     ensures len { array_vec_len text.new ≡ array_vec_len text.old + length bytes.now }
 {
-    let _fits = text.try_extend_from_slice(bytes);
+    // each push knows its room, so constant bytes become a store or two with no test
+    for byte in bytes {
+        text.push(*byte);
+    }
 }
 
 /// Appends a number of two digits, the first of which may be 0.

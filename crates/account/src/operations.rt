@@ -1,9 +1,9 @@
 //! The texts of operations.
 
-ghost use Rattle.std.specs.Prelude.{◌≡◌, ◌+◌, ◌≤◌, ◌++◌, IsTrue};
+ghost use Rattle.std.specs.Prelude.{◌≡◌, ◌+◌, ◌≤◌, ◌++◌, true, IsTrue};
 ghost use Rattle.arrayvec.specs.ArrayVec.{array_vec_len};
-ghost use Rattle.xv_model.specs.board.Validity.{valid_pq};
-ghost use Rattle.account.specs.text.Operations.{pq_op_text, op_text, is_built, flag_text, flags_text, target_text, event_queue_text, escalation_text, config_text, arguments_text};
+ghost use Rattle.xv_model.specs.board.Validity.{has_op};
+ghost use Rattle.account.specs.text.Operations.{pq_op_text, access_text, page_text, op_text, is_built, flag_text, flags_text, target_text, event_queue_text, escalation_text, config_text, arguments_text};
 
 use crate::numbers::{add, add_hex, add_pair, add_short_number};
 use arrayvec::ArrayVec;
@@ -13,14 +13,32 @@ use xv_model::operations::{EndConfig, EndFlags, Op, PqOp};
 /// The room that the text of an operation wants, in bytes.
 pub const LONGEST_OP: usize = 119;
 
+/// The room that the text of an operation on a pair wants, in bytes.
+const LONGEST_PQ_OP: usize = 18;
+
+/// The room that the word of an access to a page wants, in bytes.
+const LONGEST_ACCESS: usize = 6;
+
+/// The room that the number, the page and the offset of an access want, in bytes.
+const LONGEST_PAGE: usize = 40;
+
 /// The most letters of the flags of an END.
 pub const MOST_FLAGS: usize = 7;
 
+/// The room that each part of an END's configuration wants, in bytes: the target, the queue or the escalation.
+const LONGEST_CONFIG_PART: usize = 29;
+
+/// The room that the configuration of an END wants, in bytes.
+const LONGEST_CONFIG: usize = 89;
+
+/// The room that the arguments of a hypercall want, in bytes.
+const LONGEST_ARGUMENTS: usize = 94;
+
 fn add_pq_op<const CAP: usize>(text: &mut ArrayVec<u8, CAP>, op: PqOp, s: u32)
-    requires room { array_vec_len text.old + 21 ≤ CAP }
-    requires op { IsTrue (valid_pq op) }
+    requires room { array_vec_len text.old + LONGEST_PQ_OP ≤ CAP }
+    requires op { IsTrue (has_op true op) }
     ensures items { text.new.items ≡ text.old.items ++ pq_op_text op s }
-    ensures len { array_vec_len text.new ≤ array_vec_len text.old + 21 }
+    ensures len { array_vec_len text.new ≤ array_vec_len text.old + LONGEST_PQ_OP }
 {
     match op {
         PqOp::Trigger => {
@@ -41,8 +59,46 @@ fn add_pq_op<const CAP: usize>(text: &mut ArrayVec<u8, CAP>, op: PqOp, s: u32)
             text.push(b' ');
             add_pair(text, pq);
         }
-        _ => unreachable!(),
+        PqOp::Raise => {
+            add(text, b"raise ");
+            add_short_number(text, s);
+        }
+        PqOp::Lower => {
+            add(text, b"lower ");
+            add_short_number(text, s);
+        }
+        PqOp::Init { asserted } => {
+            add(text, b"init ");
+            add_short_number(text, s);
+            add(text, if asserted { b" 1" } else { b" 0" });
+        }
     }
+}
+
+/// Whether a page is loaded from or stored to; for a page of an END, `end` stands before it.
+fn add_access<const CAP: usize>(text: &mut ArrayVec<u8, CAP>, store: bool)
+    requires { array_vec_len text.old + LONGEST_ACCESS ≤ CAP }
+    ensures items { text.new.items ≡ text.old.items ++ access_text store }
+    ensures len { array_vec_len text.new ≤ array_vec_len text.old + LONGEST_ACCESS }
+{
+    if store {
+        add(text, b"store ");
+    } else {
+        add(text, b"load ");
+    }
+}
+
+/// Which page of which source or END is accessed, and where.
+fn add_page<const CAP: usize>(text: &mut ArrayVec<u8, CAP>, n: u32, page: u8, offset: u16)
+    requires { array_vec_len text.old + LONGEST_PAGE ≤ CAP }
+    ensures items { text.new.items ≡ text.old.items ++ page_text n page offset }
+    ensures len { array_vec_len text.new ≤ array_vec_len text.old + LONGEST_PAGE }
+{
+    add_short_number(text, n);
+    text.push(b' ');
+    add_short_number(text, page as u32);
+    text.push(b' ');
+    add_hex(text, offset as u64);
 }
 
 /// The letter of a flag, where it is set.
@@ -80,9 +136,9 @@ pub fn add_flags<const CAP: usize>(text: &mut ArrayVec<u8, CAP>, flags: EndFlags
 }
 
 fn add_target<const CAP: usize>(text: &mut ArrayVec<u8, CAP>, config: &EndConfig)
-    requires { array_vec_len text.old + 29 ≤ CAP }
+    requires { array_vec_len text.old + LONGEST_CONFIG_PART ≤ CAP }
     ensures items { text.new.items ≡ text.old.items ++ target_text config.now }
-    ensures len { array_vec_len text.new ≤ array_vec_len text.old + 29 }
+    ensures len { array_vec_len text.new ≤ array_vec_len text.old + LONGEST_CONFIG_PART }
 {
     add_flags(text, config.flags);
     text.push(b' ');
@@ -92,9 +148,9 @@ fn add_target<const CAP: usize>(text: &mut ArrayVec<u8, CAP>, config: &EndConfig
 }
 
 fn add_event_queue<const CAP: usize>(text: &mut ArrayVec<u8, CAP>, config: &EndConfig)
-    requires { array_vec_len text.old + 29 ≤ CAP }
+    requires { array_vec_len text.old + LONGEST_CONFIG_PART ≤ CAP }
     ensures items { text.new.items ≡ text.old.items ++ event_queue_text config.now }
-    ensures len { array_vec_len text.new ≤ array_vec_len text.old + 29 }
+    ensures len { array_vec_len text.new ≤ array_vec_len text.old + LONGEST_CONFIG_PART }
 {
     add_hex(text, config.qaddr);
     text.push(b' ');
@@ -102,9 +158,9 @@ fn add_event_queue<const CAP: usize>(text: &mut ArrayVec<u8, CAP>, config: &EndC
 }
 
 fn add_escalation<const CAP: usize>(text: &mut ArrayVec<u8, CAP>, config: &EndConfig)
-    requires { array_vec_len text.old + 29 ≤ CAP }
+    requires { array_vec_len text.old + LONGEST_CONFIG_PART ≤ CAP }
     ensures items { text.new.items ≡ text.old.items ++ escalation_text config.now }
-    ensures len { array_vec_len text.new ≤ array_vec_len text.old + 29 }
+    ensures len { array_vec_len text.new ≤ array_vec_len text.old + LONGEST_CONFIG_PART }
 {
     add_short_number(text, config.esc);
     text.push(b' ');
@@ -112,9 +168,9 @@ fn add_escalation<const CAP: usize>(text: &mut ArrayVec<u8, CAP>, config: &EndCo
 }
 
 fn add_config<const CAP: usize>(text: &mut ArrayVec<u8, CAP>, config: &EndConfig)
-    requires { array_vec_len text.old + 89 ≤ CAP }
+    requires { array_vec_len text.old + LONGEST_CONFIG ≤ CAP }
     ensures items { text.new.items ≡ text.old.items ++ config_text config.now }
-    ensures len { array_vec_len text.new ≤ array_vec_len text.old + 89 }
+    ensures len { array_vec_len text.new ≤ array_vec_len text.old + LONGEST_CONFIG }
 {
     add_target(text, config);
     text.push(b' ');
@@ -124,9 +180,9 @@ fn add_config<const CAP: usize>(text: &mut ArrayVec<u8, CAP>, config: &EndConfig
 }
 
 fn add_arguments<const CAP: usize>(text: &mut ArrayVec<u8, CAP>, args: &[u64; 5])
-    requires { array_vec_len text.old + 94 ≤ CAP }
+    requires { array_vec_len text.old + LONGEST_ARGUMENTS ≤ CAP }
     ensures items { text.new.items ≡ text.old.items ++ arguments_text args.now }
-    ensures len { array_vec_len text.new ≤ array_vec_len text.old + 94 }
+    ensures len { array_vec_len text.new ≤ array_vec_len text.old + LONGEST_ARGUMENTS }
 {
     add_hex(text, args[0]);
     text.push(b' ');
@@ -148,6 +204,25 @@ pub fn add_op<const CAP: usize>(text: &mut ArrayVec<u8, CAP>, op: &Op)
 {
     match op {
         Op::Pq { s, op } => add_pq_op(text, *op, *s),
+        Op::Esb {
+            s,
+            page,
+            offset,
+            store,
+        } => {
+            add_access(text, *store);
+            add_page(text, *s, *page, *offset);
+        }
+        Op::EndEsb {
+            e,
+            page,
+            offset,
+            store,
+        } => {
+            add(text, b"end");
+            add_access(text, *store);
+            add_page(text, *e, *page, *offset);
+        }
         Op::Route { s } => {
             add(text, b"route ");
             add_short_number(text, *s);

@@ -2,7 +2,7 @@
 
 ghost use Rattle.std.specs.Prelude.{◌≡◌, ◌+◌, ◌<◌, ◌≤◌, ◌++◌};
 ghost use Rattle.arrayvec.specs.ArrayVec.{array_vec_len};
-ghost use Rattle.account.specs.text.Outcomes.{outcome_text, wrote_text, next_text, pass_text, routed_text, reply_text};
+ghost use Rattle.account.specs.text.Outcomes.{pairs_text, forward_text, outcome_text, wrote_text, next_text, pass_text, routed_text, reply_text};
 ghost use Rattle.xv_model.specs.account.Outcomes.{IsWellFormed};
 
 use crate::numbers::{add, add_hex, add_number, add_pair, add_short_number, add_signed};
@@ -12,16 +12,43 @@ use xv_model::outcomes::{EndRun, HReply, Outcome, Routed, Then, Wrote};
 /// The room that the text of an outcome wants, in bytes.
 pub const LONGEST_OUTCOME: usize = 89;
 
-fn add_pairs<const CAP: usize>(text: &mut ArrayVec<u8, CAP>, old: u8, new: u8, forward: u64)
-    requires room { array_vec_len text.old + 34 ≤ CAP }
+/// The room that a pair before and after wants, in bytes.
+const LONGEST_PAIRS: usize = 5;
+
+/// The room that the number of a forward wants, in bytes.
+const LONGEST_FORWARD: usize = 29;
+
+/// The room that the address and the word of a queue's entry want, in bytes.
+const LONGEST_WROTE: usize = 43;
+
+/// The room that the way a pass goes on wants, in bytes.
+const LONGEST_NEXT: usize = 10;
+
+/// The room that a pass wants, in bytes.
+const LONGEST_PASS: usize = 68;
+
+/// The room that a reply without outputs wants, in bytes.
+const LONGEST_REPLY: usize = 26;
+
+/// A pair before and after.
+fn add_pairs<const CAP: usize>(text: &mut ArrayVec<u8, CAP>, old: u8, new: u8)
+    requires room { array_vec_len text.old + LONGEST_PAIRS ≤ CAP }
     requires old { old < 4 }
     requires new { new < 4 }
-    ensures items { text.new.items ≡ text.old.items ++ outcome_text (Outcome.Pq old new forward) }
-    ensures len { array_vec_len text.new ≤ array_vec_len text.old + 34 }
+    ensures items { text.new.items ≡ text.old.items ++ pairs_text old new }
+    ensures len { array_vec_len text.new ≤ array_vec_len text.old + LONGEST_PAIRS }
 {
     add_pair(text, old);
     text.push(b' ');
     add_pair(text, new);
+}
+
+/// The number of a forward; 0 is none.
+fn add_forward<const CAP: usize>(text: &mut ArrayVec<u8, CAP>, forward: u64)
+    requires { array_vec_len text.old + LONGEST_FORWARD ≤ CAP }
+    ensures items { text.new.items ≡ text.old.items ++ forward_text forward }
+    ensures len { array_vec_len text.new ≤ array_vec_len text.old + LONGEST_FORWARD }
+{
     if forward != 0 {
         add(text, b" forward ");
         add_number(text, forward);
@@ -29,9 +56,9 @@ fn add_pairs<const CAP: usize>(text: &mut ArrayVec<u8, CAP>, old: u8, new: u8, f
 }
 
 fn add_wrote<const CAP: usize>(text: &mut ArrayVec<u8, CAP>, wrote: &Option<Wrote>)
-    requires { array_vec_len text.old + 43 ≤ CAP }
+    requires { array_vec_len text.old + LONGEST_WROTE ≤ CAP }
     ensures items { text.new.items ≡ text.old.items ++ wrote_text wrote.now }
-    ensures len { array_vec_len text.new ≤ array_vec_len text.old + 43 }
+    ensures len { array_vec_len text.new ≤ array_vec_len text.old + LONGEST_WROTE }
 {
     match wrote {
         Some(wrote) => {
@@ -45,9 +72,9 @@ fn add_wrote<const CAP: usize>(text: &mut ArrayVec<u8, CAP>, wrote: &Option<Wrot
 }
 
 fn add_next<const CAP: usize>(text: &mut ArrayVec<u8, CAP>, next: Then)
-    requires { array_vec_len text.old + 10 ≤ CAP }
+    requires { array_vec_len text.old + LONGEST_NEXT ≤ CAP }
     ensures items { text.new.items ≡ text.old.items ++ next_text next }
-    ensures len { array_vec_len text.new ≤ array_vec_len text.old + 10 }
+    ensures len { array_vec_len text.new ≤ array_vec_len text.old + LONGEST_NEXT }
 {
     match next {
         Then::Coalesced => add(text, b" coalesced"),
@@ -58,9 +85,9 @@ fn add_next<const CAP: usize>(text: &mut ArrayVec<u8, CAP>, next: Then)
 }
 
 fn add_pass<const CAP: usize>(text: &mut ArrayVec<u8, CAP>, pass: &EndRun)
-    requires { array_vec_len text.old + 68 ≤ CAP }
+    requires { array_vec_len text.old + LONGEST_PASS ≤ CAP }
     ensures items { text.new.items ≡ text.old.items ++ pass_text pass.now }
-    ensures len { array_vec_len text.new ≤ array_vec_len text.old + 68 }
+    ensures len { array_vec_len text.new ≤ array_vec_len text.old + LONGEST_PASS }
 {
     match pass {
         EndRun::NoEnd { e } => {
@@ -79,9 +106,9 @@ fn add_pass<const CAP: usize>(text: &mut ArrayVec<u8, CAP>, pass: &EndRun)
 }
 
 fn add_routed<const CAP: usize>(text: &mut ArrayVec<u8, CAP>, routed: &Routed)
-    requires { array_vec_len text.old + 68 ≤ CAP }
+    requires { array_vec_len text.old + LONGEST_PASS ≤ CAP }
     ensures items { text.new.items ≡ text.old.items ++ routed_text routed.now }
-    ensures len { array_vec_len text.new ≤ array_vec_len text.old + 68 }
+    ensures len { array_vec_len text.new ≤ array_vec_len text.old + LONGEST_PASS }
 {
     match routed {
         Routed::NoSource => add(text, b"no-source"),
@@ -92,10 +119,10 @@ fn add_routed<const CAP: usize>(text: &mut ArrayVec<u8, CAP>, routed: &Routed)
 
 /// The text of a reply without outputs.
 fn add_reply<const CAP: usize>(text: &mut ArrayVec<u8, CAP>, reply: &HReply)
-    requires room { array_vec_len text.old + 26 ≤ CAP }
+    requires room { array_vec_len text.old + LONGEST_REPLY ≤ CAP }
     requires bare { reply.now.outs ≡ 0 }
     ensures items { text.new.items ≡ text.old.items ++ reply_text reply.now }
-    ensures len { array_vec_len text.new ≤ array_vec_len text.old + 26 }
+    ensures len { array_vec_len text.new ≤ array_vec_len text.old + LONGEST_REPLY }
 {
     add(text, b"code ");
     add_signed(text, reply.code);
@@ -109,8 +136,15 @@ pub fn add_outcome<const CAP: usize>(text: &mut ArrayVec<u8, CAP>, outcome: &Out
     ensures len { array_vec_len text.new ≤ array_vec_len text.old + LONGEST_OUTCOME }
 {
     match outcome {
-        Outcome::Pq { old, new, forward } => add_pairs(text, *old, *new, *forward),
+        Outcome::Pq { old, new, forward } => {
+            add_pairs(text, *old, *new);
+            add_forward(text, *forward);
+        }
         Outcome::Spent => add(text, b"spent"),
+        Outcome::Ones => add(text, b"ones"),
+        Outcome::BadOffset => add(text, b"bad-offset"),
+        Outcome::EndPq { old, new } => add_pairs(text, *old, *new),
+        Outcome::NoEnd => add(text, b"no-end"),
         Outcome::NoNotice => add(text, b"no-notice"),
         Outcome::BusFull => add(text, b"bus-full"),
         Outcome::Routed { k, routed } => {

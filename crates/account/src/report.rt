@@ -12,6 +12,9 @@ use bitflags::Flags;
 use xv_model::operations::EndFlags;
 use xv_model::outcomes::Phase;
 
+/// The room that the phase of a processor wants, in bytes.
+const LONGEST_PHASE: usize = 19;
+
 /// Appends the first line: how many entries there are.
 pub fn add_end<const CAP: usize>(text: &mut ArrayVec<u8, CAP>, entries: u64)
     requires { array_vec_len text.old + LONGEST_REPORT_LINE ≤ CAP }
@@ -96,9 +99,9 @@ pub fn add_queue<const CAP: usize>(
 }
 
 fn add_phase<const CAP: usize>(text: &mut ArrayVec<u8, CAP>, phase: Phase)
-    requires { array_vec_len text.old + 19 ≤ CAP }
+    requires { array_vec_len text.old + LONGEST_PHASE ≤ CAP }
     ensures items { text.new.items ≡ text.old.items ++ phase_text phase }
-    ensures len { array_vec_len text.new ≤ array_vec_len text.old + 19 }
+    ensures len { array_vec_len text.new ≤ array_vec_len text.old + LONGEST_PHASE }
 {
     match phase {
         Phase::Saved => add(text, b"saved"),

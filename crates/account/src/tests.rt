@@ -1,7 +1,7 @@
 //! Each text that is built, against bytes that are written out by hand.
 
 ghost use Rattle.std.specs.Prelude.{ℕ, ◌<◌, ◌≤◌, IsTrue};
-ghost use Rattle.xv_model.specs.board.Boards.{AreBelow};
+ghost use Rattle.xv_model.specs.board.Boards.{AreBelow, IsBoard};
 ghost use Rattle.account.specs.text.Operations.{is_built};
 ghost use Rattle.xv_model.specs.account.Outcomes.{IsWellFormed};
 
@@ -29,6 +29,15 @@ fn prints(index: u64, actor: u32, op: Op, outcome: Outcome, line: &[u8]) -> bool
     let mut text = Text::new();
     add_entry(&mut text, index, &Entry { actor, op, outcome });
     text.as_slice() == line
+}
+
+/// The pairs before and after, and the number of a forward.
+fn pairs(old: u8, new: u8, forward: u64) -> Outcome
+    requires old { old < 4 }
+    requires new { new < 4 }
+    ensures { IsWellFormed result }
+{
+    Outcome::Pq { old, new, forward }
 }
 
 /// A pass that writes nothing.
@@ -124,6 +133,122 @@ fn pairs_of_a_source(rt: HostRuntime) {
             },
             Outcome::Spent,
             b"100 2 trigger 7 -> spent\n"
+        )
+    );
+}
+
+#[test]
+fn lines_of_level_sources(rt: HostRuntime) {
+    let s = 0;
+    let up = Op::Pq { s, op: PqOp::Raise };
+    let down = Op::Pq { s, op: PqOp::Lower };
+    assert!(rt;
+        prints(
+            1,
+            0,
+            up,
+            pairs(0, 2, 1),
+            b"1 0 raise 0 -> 00 10 forward 1\n"
+        )
+    );
+    assert!(rt; prints(2, 1, down, pairs(2, 2, 0), b"2 1 lower 0 -> 10 10\n"));
+    let asserted = Op::Pq {
+        s,
+        op: PqOp::Init { asserted: true },
+    };
+    let idle = Op::Pq {
+        s: 8191,
+        op: PqOp::Init { asserted: false },
+    };
+    assert!(rt; prints(3, 0, asserted, pairs(3, 1, 0), b"3 0 init 0 1 -> 11 01\n"));
+    assert!(rt; prints(4, 0, idle, pairs(1, 1, 0), b"4 0 init 8191 0 -> 01 01\n"));
+}
+
+/// An access to a page of source 0.
+fn source_access(page: u8, offset: u16, store: bool) -> Op
+    ensures { IsTrue (is_built result) }
+{
+    Op::Esb {
+        s: 0,
+        page,
+        offset,
+        store,
+    }
+}
+
+#[test]
+fn accesses_to_pages_of_sources(rt: HostRuntime) {
+    let op = source_access(0, 0x123, true);
+    assert!(rt; prints(0, 0, op, pairs(1, 1, 0), b"0 0 store 0 0 0x123 -> 01 01\n"));
+    let op = source_access(0, 0, false);
+    assert!(rt; prints(1, 0, op, Outcome::Ones, b"1 0 load 0 0 0x0 -> ones\n"));
+    let op = source_access(1, 0x7ff, false);
+    assert!(rt;
+        prints(
+            6,
+            0,
+            op,
+            pairs(3, 2, 1),
+            b"6 0 load 0 1 0x7ff -> 11 10 forward 1\n"
+        )
+    );
+    let op = source_access(1, 0x400, true);
+    assert!(rt;
+        prints(
+            5,
+            0,
+            op,
+            Outcome::BadOffset,
+            b"5 0 store 0 1 0x400 -> bad-offset\n"
+        )
+    );
+    let op = source_access(0, 0xffff, true);
+    assert!(rt; prints(9, 0, op, Outcome::Spent, b"9 0 store 0 0 0xffff -> spent\n"));
+}
+
+/// A load at a page of an END.
+fn end_load(e: u32, page: u8, offset: u16) -> Op
+    ensures { IsTrue (is_built result) }
+{
+    Op::EndEsb {
+        e,
+        page,
+        offset,
+        store: false,
+    }
+}
+
+#[test]
+fn accesses_to_pages_of_ends(rt: HostRuntime) {
+    let op = end_load(0, 0, 0);
+    let loaded = Outcome::EndPq { old: 3, new: 2 };
+    assert!(rt; prints(0, 0, op, loaded, b"0 0 endload 0 0 0x0 -> 11 10\n"));
+    let op = end_load(511, 1, 0xd00);
+    let loaded = Outcome::EndPq { old: 0, new: 1 };
+    assert!(rt; prints(1, 0, op, loaded, b"1 0 endload 511 1 0xd00 -> 00 01\n"));
+    let op = end_load(1, 0, 0x10);
+    assert!(rt;
+        prints(
+            2,
+            0,
+            op,
+            Outcome::NoEnd,
+            b"2 0 endload 1 0 0x10 -> no-end\n"
+        )
+    );
+    let op = Op::EndEsb {
+        e: 0,
+        page: 0,
+        offset: 0,
+        store: true,
+    };
+    assert!(rt;
+        prints(
+            3,
+            0,
+            op,
+            Outcome::BadOffset,
+            b"3 0 endstore 0 0 0x0 -> bad-offset\n"
         )
     );
 }
@@ -321,9 +446,11 @@ fn one_range(first: u32, last: u32) -> Spans
     Spans { count: 1, spans }
 }
 
-#[test]
-fn headers(rt: HostRuntime) {
-    let board = Board {
+/// A board with the most sources, processors, threads and actors, and one range of each kind.
+fn ranged_board(two_pages: bool, store_eoi: bool) -> Board
+    ensures { IsBoard result }
+{
+    Board {
         limits: Limits {
             sources: 8192,
             processors: 64,
@@ -331,22 +458,49 @@ fn headers(rt: HostRuntime) {
             actors: 16,
         },
         ram_mib: 2,
-        two_pages: true,
-        store_eoi: false,
+        two_pages,
+        store_eoi,
         level: one_range(8191, 8191),
         unclaimed: one_range(1, 100),
         unconnected: one_range(9, 63),
-    };
+    }
+}
+
+/// Whether the header of such a board is printed with this line of its pages.
+fn prints_pages(two_pages: bool, store_eoi: bool, line: &[u8]) -> bool {
     let mut text = Text::new();
-    add_header(&mut text, &board);
+    add_header(&mut text, &ranged_board(two_pages, store_eoi));
     let mut expected = Text::new();
     let _fits = expected.try_extend_from_slice(
-        b"xive-account 1\nsources 8192\nprocessors 64\nthreads 32\nram 2\n",
+        b"xive-account 1\nsources 8192\nprocessors 64\nthreads 32\nram 2\nactors 16\n",
     );
+    let _fits = expected.try_extend_from_slice(line);
     let _fits = expected.try_extend_from_slice(
-        b"actors 16\nesb 2 0\nlevel 8191 8191\nunclaimed 1 100\n",
+        b"level 8191 8191\nunclaimed 1 100\nunconnected 9 63\ngo\n",
     );
-    let _fits = expected.try_extend_from_slice(b"unconnected 9 63\ngo\n");
+    text.as_slice() == expected.as_slice()
+}
+
+#[test]
+fn headers(rt: HostRuntime) {
+    assert!(rt; prints_pages(false, false, b"esb 1 0\n"));
+    assert!(rt; prints_pages(false, true, b"esb 1 1\n"));
+    assert!(rt; prints_pages(true, false, b"esb 2 0\n"));
+    assert!(rt; prints_pages(true, true, b"esb 2 1\n"));
+}
+
+#[test]
+fn sources_of_a_report(rt: HostRuntime) {
+    let mut text = Text::new();
+    add_source(&mut text, 0, 1, false, 0, 0);
+    add_source(&mut text, 1, 1, true, 0, 0);
+    add_source(&mut text, 2, 1, false, 3, 2);
+    add_source(&mut text, 3, 0, false, 0, 0);
+    add_source(&mut text, 8191, 2, true, 18446744073709551615, 1);
+    let mut expected = Text::new();
+    let _fits = expected.try_extend_from_slice(b"source 1 01 0 0 asserted\nsource 2 01 3 2\n");
+    let _fits = expected.try_extend_from_slice(b"source 3 00 0 0\n");
+    let _fits = expected.try_extend_from_slice(b"source 8191 10 18446744073709551615 1 asserted\n");
     assert!(rt; text.as_slice() == expected.as_slice());
 }
 
@@ -354,8 +508,6 @@ fn headers(rt: HostRuntime) {
 fn reports(rt: HostRuntime) {
     let mut text = Text::new();
     add_end(&mut text, 18446744073709551615);
-    add_source(&mut text, 0, 1, false, 0, 0);
-    add_source(&mut text, 1, 1, true, 0, 0);
     add_source(&mut text, 2, 0, false, 12, 11);
     add_queue(&mut text, 8, EndFlags::from_bits_retain(126), 4, 3, 1, 1);
     add_queue(&mut text, 9, EndFlags::from_bits_retain(5), 4, 3, 2, 0);
@@ -366,9 +518,7 @@ fn reports(rt: HostRuntime) {
     add_notices(&mut text, 0);
     add_done(&mut text);
     let mut expected = Text::new();
-    let _fits = expected.try_extend_from_slice(
-        b"end 18446744073709551615\nsource 1 01 0 0 asserted\nsource 2 00 12 11\n",
-    );
+    let _fits = expected.try_extend_from_slice(b"end 18446744073709551615\nsource 2 00 12 11\n");
     let _fits = expected.try_extend_from_slice(b"queue 9 vn 4 3 10 00\n");
     let _fits = expected.try_extend_from_slice(
         b"processor 63 saved 0x0 0x0 0x80\nprocessor 2 on 31 0xff 0x10 0x0\n",

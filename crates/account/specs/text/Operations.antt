@@ -1,11 +1,11 @@
 -- The texts of operations.
 use Rattle.std.specs.Prelude.{ℕ, ◌==◌, Bool, true, false, if◌then◌else◌, List, [], ◌++◌, slice_index_or, codes, decimal}
 use Rattle.xv_model.specs.declared.operations.PqOp.{PqOp}
-use Rattle.xv_model.specs.declared.operations.PqOp.TheVariants.{Trigger, Eoi, Get, Set}
+use Rattle.xv_model.specs.declared.operations.PqOp.TheVariants.{Trigger, Eoi, Get, Set, Raise, Lower, Init}
 use Rattle.xv_model.specs.declared.operations.Op.{Op}
 use Rattle.xv_model.specs.declared.operations.Op.TheVariants as op
 use Rattle.xv_model.specs.declared.operations.EndConfig.{EndConfig}
-use Rattle.xv_model.specs.board.Validity.{valid_pq}
+use Rattle.xv_model.specs.board.Validity.{has_op}
 use Rattle.xv_model.specs.end.Flags.{has_bit}
 use Rattle.account.specs.text.Numbers.{pair_text, hex}
 
@@ -15,7 +15,17 @@ pq_op_text Trigger s = codes "trigger " ++ decimal s
 pq_op_text Eoi s = codes "eoi " ++ decimal s
 pq_op_text Get s = codes "get " ++ decimal s
 pq_op_text (Set q) s = codes "set " ++ decimal s ++ codes " " ++ pair_text q
-pq_op_text _ s = []
+pq_op_text Raise s = codes "raise " ++ decimal s
+pq_op_text Lower s = codes "lower " ++ decimal s
+pq_op_text (Init asserted) s = codes "init " ++ decimal s ++ (if asserted then codes " 1" else codes " 0")
+
+-- whether a page is loaded from or stored to
+abbrev pub access_text : Bool → List ℕ
+access_text store = if store then codes "store " else codes "load "
+
+-- which page of which source or END is accessed, and at which offset
+abbrev pub page_text : ℕ → ℕ → ℕ → List ℕ
+page_text n page offset = decimal n ++ codes " " ++ decimal page ++ codes " " ++ hex offset
 
 -- a flag's letter, where it is set
 abbrev pub flag_text : ℕ → ℕ → List ℕ → List ℕ
@@ -56,6 +66,8 @@ arguments_text args =
 -- an operation; one that isn't built has no text
 abbrev pub op_text : Op → List ℕ
 op_text (op.Pq s o) = pq_op_text o s
+op_text (op.Esb s page offset store) = access_text store ++ page_text s page offset
+op_text (op.EndEsb e page offset store) = codes "end" ++ access_text store ++ page_text e page offset
 op_text (op.Route s) = codes "route " ++ decimal s
 op_text (op.EndSet e c) = codes "endset " ++ decimal e ++ codes " " ++ config_text c
 op_text (op.Hcall number args) = codes "hcall " ++ hex number ++ codes " " ++ arguments_text args
@@ -63,7 +75,9 @@ op_text _ = []
 
 -- whether an operation is built, whatever its board, and a pair in it is one
 abbrev pub is_built : Op → Bool
-is_built (op.Pq s o) = valid_pq o
+is_built (op.Pq s o) = has_op true o
+is_built (op.Esb s page offset store) = true
+is_built (op.EndEsb e page offset store) = true
 is_built (op.Route s) = true
 is_built (op.EndSet e c) = true
 is_built (op.Hcall number args) = true

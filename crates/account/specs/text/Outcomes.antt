@@ -13,6 +13,10 @@ use Rattle.xv_model.specs.declared.outcomes.Outcome.{Outcome}
 use Rattle.xv_model.specs.declared.outcomes.Outcome.TheVariants as out
 use Rattle.account.specs.text.Numbers.{pair_text, hex}
 
+-- a pair before and after
+abbrev pub pairs_text : ℕ → ℕ → List ℕ
+pairs_text old new = pair_text old ++ codes " " ++ pair_text new
+
 -- the number of a forward; 0 is none
 abbrev pub forward_text : ℕ → List ℕ
 forward_text n = if n == 0 then [] else codes " forward " ++ decimal n
@@ -51,9 +55,12 @@ reply_text reply = codes "code " ++ signed_decimal reply.code ++ outputs_text (t
 
 -- an outcome; one of no operation that is built has no text
 abbrev pub outcome_text : Outcome → List ℕ
-outcome_text (out.Pq old new forward) =
-    pair_text old ++ codes " " ++ pair_text new ++ forward_text forward
+outcome_text (out.Pq old new forward) = pairs_text old new ++ forward_text forward
 outcome_text out.Spent = codes "spent"
+outcome_text out.Ones = codes "ones"
+outcome_text out.BadOffset = codes "bad-offset"
+outcome_text (out.EndPq old new) = pairs_text old new
+outcome_text out.NoEnd = codes "no-end"
 outcome_text out.NoNotice = codes "no-notice"
 outcome_text out.BusFull = codes "bus-full"
 outcome_text (out.Routed k routed) = decimal k ++ codes " " ++ routed_text routed

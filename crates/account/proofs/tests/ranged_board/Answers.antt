@@ -1,8 +1,8 @@
 use Rattle.std.proofs.Common.{arith, rules}
-use Rattle.account.proofs.tests.headers.Goals as goal
+use Rattle.account.proofs.tests.ranged_board.Goals as goal
 
-pub add_header-requires : goal.add_header-requires
-add_header-requires g c =
+pub returns : goal.returns
+returns c =
     let level = c.one_range.ensures 8192 (omega arith) in
     let unclaimed = c.one_range-2.ensures 8192 (omega arith) in
     let unconnected = c.one_range-3.ensures 64 (omega arith) in
