@@ -1,15 +1,18 @@
 -- What is read of a line fits its stage, whatever its bytes are.
-use Rattle.std.proofs.Common.{ℕ, ◌≡◌, ◌<◌, ◌≤◌, ◌+◌, ◌&&◌, ◌==◌, nat_lt, nat_le, Bool, true, false, if◌then◌else◌, List, codes, Option, Some, None, Ok, Err, IfSome, IfOk, refl, subst, arith}
+use Rattle.std.proofs.Common.{ℕ, ◌≡◌, ◌<◌, ◌≤◌, ◌+◌, ◌*◌, ◌^◌, ◌&&◌, ◌==◌, nat_lt, nat_le, Bool, true, false, if◌then◌else◌, List, codes, Option, Some, None, Ok, Err, IfSome, IfOk, refl, sym, subst, arith}
 use Rattle.std.specs.declared.result.Result.{Result}
 use Rattle.std.proofs.lemmas.Bool.Decides.{nat_tests}
-use Rattle.xv_base.specs.Limits.{most_sources, most_processors, most_threads, most_actors, most_ram_mib, most_ranges}
+use Rattle.xv_base.specs.Limits.{most_sources, most_processors, most_threads, most_actors, most_ram_mib, most_ranges, ends_per_processor}
 use Rattle.xv_model.specs.declared.board.Board.{Board}
+use Rattle.xv_model.specs.declared.board.Spans.{Spans}
 use Rattle.xv_model.specs.declared.hypercalls.TheConstants.{H_INT_SET_SOURCE_CONFIG}
+use Rattle.xv_model.specs.declared.pages.TheConstants.{END_PAGES}
 use Rattle.xv_model.specs.declared.operations.PqOp.{PqOp}
-use Rattle.xv_model.specs.declared.operations.PqOp.TheVariants.{Trigger, Eoi, Get, Set}
+use Rattle.xv_model.specs.declared.operations.PqOp.TheVariants.{Trigger, Eoi, Get, Set, Raise, Lower, Init}
 use Rattle.xv_model.specs.declared.operations.Op.{Op}
 use Rattle.xv_model.specs.declared.operations.Op.TheVariants as op
-use Rattle.xv_model.specs.board.Validity.{valid, valid_pq}
+use Rattle.xv_model.specs.board.Boards.{is_level, source_pages}
+use Rattle.xv_model.specs.board.Validity.{valid, has_op, end_count}
 use Rattle.board_script.specs.declared.faults.Misread.{Misread}
 use Rattle.board_script.specs.declared.stage.Turn.{Turn}
 use Rattle.board_script.specs.declared.stage.Turn.TheVariants as turns
@@ -22,11 +25,12 @@ use Rattle.board_script.specs.Words.{skip, says_nothing, word_of, rest_of, is_wo
 use Rattle.board_script.specs.Numbers.{number_of, number_at, in_bounds, bounded_at, end_number_at, pair_of, pair_at}
 use Rattle.board_script.specs.Flags.{flags_at}
 use Rattle.board_script.specs.Work.{HasValidSteps}
-use Rattle.board_script.specs.Sources.{source_at, access_line_of, set_line_of, route_line_of, then_route_of}
+use Rattle.board_script.specs.Sources.{source_at, access_line_of, set_line_of, route_line_of, then_route_of, level_source_of, level_line_of, assert_line_of, init_by, init_line_of}
+use Rattle.board_script.specs.Pages.{page_bytes, place_of, source_page_line_of, end_page_line_of}
 use Rattle.board_script.specs.Configuring.{config_of, if_valid, endset_of, args_of, call_of, hcall_of}
-use Rattle.board_script.specs.Working.{steps_by, steps_of, work_of}
-use Rattle.board_script.specs.Header.{number_line_of, pages_line_of, unclaimed_of, last_line_of, header_of}
-use Rattle.board_script.specs.Lines.{check_of, words_of, said_by, checked_of, said_of, IsNumber, IsPages, IsLastSaid, IsHeaderSaid, IsWorkSaid, IsSaidAt}
+use Rattle.board_script.specs.Working.{rare_steps_by, steps_by, steps_of, work_of}
+use Rattle.board_script.specs.Header.{number_line_of, pages_line_of, range_of, range_line_of, has_room, takes_level, last_line_of, header_of}
+use Rattle.board_script.specs.Lines.{check_of, words_of, said_by, checked_of, said_of, IsNumber, IsPages, IsRange, IsLevelAt, IsLastSaid, IsHeaderSaid, IsWorkSaid, IsSaidAt}
 
 -- a choice by a test
 choose : {A : Type 0} (P : A → Type 0) (b : Bool) (x y : Result A Misread) → (b ≡ true → IfOk x P) → IfOk y P → IfOk (if b then x else y) P
@@ -98,10 +102,10 @@ pair_fits rest =
     let word = word_of rest in
     value_fits IsPair (pair_of word) rest (pair_by (is_word (codes "00") word) (is_word (codes "01") word) (is_word (codes "10") word) (is_word (codes "11") word))
 
-access_fits : (b : Board) (o : PqOp) (rest : List ℕ) → valid_pq o ≡ true → IfOk (access_line_of b o rest) (HasValidSteps b)
+access_fits : (b : Board) (o : PqOp) (rest : List ℕ) → ((level : Bool) → has_op level o ≡ true) → IfOk (access_line_of b o rest) (HasValidSteps b)
 access_fits b o rest v =
     read_fits (HasValidSteps b) (Passes 0 b.limits.sources) (source_at b rest) _ (bounded_fits 0 b.limits.sources rest) (λ s q.
-    end_fits (HasValidSteps b) (rest_of rest) (Once (op.Pq s o)) (both (nat_lt s b.limits.sources) (valid_pq o) q.below v))
+    end_fits (HasValidSteps b) (rest_of rest) (Once (op.Pq s o)) (both (nat_lt s b.limits.sources) (has_op (is_level b s) o) q.below (v (is_level b s))))
 
 set_fits : (b : Board) (rest : List ℕ) → IfOk (set_line_of b rest) (HasValidSteps b)
 set_fits b rest =
@@ -114,10 +118,73 @@ route_fits b rest =
     read_fits (HasValidSteps b) (Passes 0 b.limits.sources) (source_at b rest) _ (bounded_fits 0 b.limits.sources rest) (λ s q.
     end_fits (HasValidSteps b) (rest_of rest) (Once (op.Route s)) q.below)
 
-then_route_fits : (b : Board) (o : PqOp) (rest : List ℕ) → valid_pq o ≡ true → IfOk (then_route_of b o rest) (HasValidSteps b)
+then_route_fits : (b : Board) (o : PqOp) (rest : List ℕ) → ((level : Bool) → has_op level o ≡ true) → IfOk (then_route_of b o rest) (HasValidSteps b)
 then_route_fits b o rest v =
     read_fits (HasValidSteps b) (Passes 0 b.limits.sources) (source_at b rest) _ (bounded_fits 0 b.limits.sources rest) (λ s q.
-    end_fits (HasValidSteps b) (rest_of rest) (ThenRoute s o) (both (nat_lt s b.limits.sources) (valid_pq o) q.below v, q.below))
+    end_fits (HasValidSteps b) (rest_of rest) (ThenRoute s o) (both (nat_lt s b.limits.sources) (has_op (is_level b s) o) q.below (v (is_level b s)), q.below))
+
+-- a number is a level source of a board
+record IsLevelSource (b : Board) (s : ℕ) : Type 0 where
+  below : nat_lt s b.limits.sources ≡ true
+  level : is_level b s ≡ true
+
+level_source_fits : (b : Board) (at : Misread) (rest : List ℕ) → IfOk (level_source_of b at rest) (IsLevelSource b)
+level_source_fits b at rest =
+    let P = IsLevelSource b in
+    read_fits P (Passes 0 b.limits.sources) (source_at b rest) _ (bounded_fits 0 b.limits.sources rest) (λ s q.
+    any_fits P (done_at (rest_of rest)) _ (λ u. choose P (is_level b s) (Ok s) (Err at) (λ e. record { below = q.below; level = e }) tt))
+
+-- an operation that a level source has is valid on one
+valid_at_level : (b : Board) (s : ℕ) (o : PqOp) → has_op true o ≡ true → IsLevelSource b s → valid b (op.Pq s o) ≡ true
+valid_at_level b s o v is = both (nat_lt s b.limits.sources) (has_op (is_level b s) o) is.below (subst (λ level. has_op level o ≡ true) (sym is.level) v)
+
+level_line_fits : (b : Board) (at : Misread) (o : PqOp) (rest : List ℕ) → has_op true o ≡ true → IfOk (level_line_of b at o rest) (HasValidSteps b)
+level_line_fits b at o rest v =
+    read_fits (HasValidSteps b) (IsLevelSource b) (level_source_of b at rest) _ (level_source_fits b at rest) (λ s is. valid_at_level b s o v is)
+
+assert_fits : (b : Board) (at : Misread) (rest : List ℕ) → IfOk (assert_line_of b at rest) (HasValidSteps b)
+assert_fits b at rest =
+    read_fits (HasValidSteps b) (IsLevelSource b) (level_source_of b at rest) _ (level_source_fits b at rest) (λ s is. (valid_at_level b s Raise refl is, is.below))
+
+init_by_fits : (b : Board) (at : Misread) (s : ℕ) (asserted : Bool) → nat_lt s b.limits.sources ≡ true → IfOk (init_by b at s asserted) (HasValidSteps b)
+init_by_fits b at s asserted below =
+    choose (HasValidSteps b) (has_op (is_level b s) (Init asserted)) (Ok (Once (op.Pq s (Init asserted)))) (Err at) (λ e. both (nat_lt s b.limits.sources) (has_op (is_level b s) (Init asserted)) below e) tt
+
+init_fits : (b : Board) (at : Misread) (rest : List ℕ) → IfOk (init_line_of b at rest) (HasValidSteps b)
+init_fits b at rest =
+    let P = HasValidSteps b in
+    read_fits P (Passes 0 b.limits.sources) (source_at b rest) _ (bounded_fits 0 b.limits.sources rest) (λ s q.
+    any_fits P (bounded_at 0 2 (rest_of rest)) _ (λ asserted. any_fits P (done_at (rest_of (rest_of rest))) _ (λ u. init_by_fits b at s (asserted == 1) q.below)))
+
+-- the page of a place is one of so many
+abbrev IsPlace : ℕ → ℕ × ℕ → Type 0
+IsPlace pages at = nat_lt at.0 pages ≡ true
+
+place_fits : (pages : ℕ) (rest : List ℕ) → IfOk (place_of pages rest) (IsPlace pages)
+place_fits pages rest =
+    let P = IsPlace pages in
+    read_fits P (Passes 0 pages) (bounded_at 0 pages rest) _ (bounded_fits 0 pages rest) (λ page q.
+    any_fits P (bounded_at 0 page_bytes (rest_of rest)) _ (λ offset. end_fits P (rest_of (rest_of rest)) (page, offset) q.below))
+
+source_page_fits : (b : Board) (store : Bool) (rest : List ℕ) → IfOk (source_page_line_of b store rest) (HasValidSteps b)
+source_page_fits b store rest =
+    let P = HasValidSteps b in
+    read_fits P (Passes 0 b.limits.sources) (source_at b rest) _ (bounded_fits 0 b.limits.sources rest) (λ s q.
+    read_fits P (IsPlace (source_pages b)) (place_of (source_pages b) (rest_of rest)) _ (place_fits (source_pages b) (rest_of rest)) (λ at p.
+    both (nat_lt s b.limits.sources) (nat_lt at.0 (source_pages b)) q.below p))
+
+end_number_fits : (processors : ℕ) (rest : List ℕ) → IfOk (end_number_at processors rest) (Passes 0 (ends_per_processor * processors))
+end_number_fits processors rest =
+    let low = in_bounds (number_of (word_of rest)) 0 (2 ^ 32) in
+    let most = ends_per_processor * processors in
+    value_fits (Passes 0 most) (in_bounds low 0 most) rest (bounds_fit low 0 most)
+
+end_page_fits : (b : Board) (store : Bool) (rest : List ℕ) → IfOk (end_page_line_of b store rest) (HasValidSteps b)
+end_page_fits b store rest =
+    let P = HasValidSteps b in
+    read_fits P (Passes 0 (end_count b)) (end_number_at b.limits.processors rest) _ (end_number_fits b.limits.processors rest) (λ e q.
+    read_fits P (IsPlace END_PAGES) (place_of END_PAGES (rest_of rest)) _ (place_fits END_PAGES (rest_of rest)) (λ at p.
+    both (nat_lt e (end_count b)) (nat_lt at.0 END_PAGES) q.below p))
 
 valid_fits : (b : Board) (at : Misread) (o : Op) → IfOk (if_valid b at o) (HasValidSteps b)
 valid_fits b at o = choose (HasValidSteps b) (valid b o) (Ok (Once o)) (Err at) (λ v. v) tt
@@ -134,18 +201,30 @@ call_fits b at number rest =
 hcall_fits : (b : Board) (rest : List ℕ) → IfOk (hcall_of rest) (HasValidSteps b)
 hcall_fits b rest = any_fits (HasValidSteps b) (number_at rest) _ (λ number. call_fits b (misread_at rest) number (rest_of rest))
 
+rare_steps_fits : (b : Board) (at : Misread) (name rest : List ℕ) → IfOk (rare_steps_by b at name rest) (HasValidSteps b)
+rare_steps_fits b at name rest =
+    let P = HasValidSteps b in
+    choose P (is_word (codes "raise") name) (level_line_of b at Raise rest) _ (λ e. level_line_fits b at Raise rest refl)
+    (choose P (is_word (codes "lower") name) (level_line_of b at Lower rest) _ (λ e. level_line_fits b at Lower rest refl)
+    (choose P (is_word (codes "assert") name) (assert_line_of b at rest) _ (λ e. assert_fits b at rest)
+    (choose P (is_word (codes "init") name) (init_line_of b at rest) _ (λ e. init_fits b at rest)
+    (choose P (is_word (codes "endload") name) (end_page_line_of b false rest) _ (λ e. end_page_fits b false rest)
+    (choose P (is_word (codes "endstore") name) (end_page_line_of b true rest) _ (λ e. end_page_fits b true rest)
+    (choose P (is_word (codes "endset") name) (endset_of b at rest) _ (λ e. endset_fits b at rest)
+    (choose P (is_word (codes "hcall") name) (hcall_of rest) (Err at) (λ e. hcall_fits b rest) tt)))))))
+
 steps_fits : (b : Board) (at : Misread) (name rest : List ℕ) → IfOk (steps_by b at name rest) (HasValidSteps b)
 steps_fits b at name rest =
     let P = HasValidSteps b in
-    choose P (is_word (codes "fire") name) (then_route_of b Trigger rest) _ (λ e. then_route_fits b Trigger rest refl)
-    (choose P (is_word (codes "finish") name) (then_route_of b Eoi rest) _ (λ e. then_route_fits b Eoi rest refl)
-    (choose P (is_word (codes "trigger") name) (access_line_of b Trigger rest) _ (λ e. access_fits b Trigger rest refl)
-    (choose P (is_word (codes "eoi") name) (access_line_of b Eoi rest) _ (λ e. access_fits b Eoi rest refl)
-    (choose P (is_word (codes "get") name) (access_line_of b Get rest) _ (λ e. access_fits b Get rest refl)
+    choose P (is_word (codes "fire") name) (then_route_of b Trigger rest) _ (λ e. then_route_fits b Trigger rest (λ level. refl))
+    (choose P (is_word (codes "finish") name) (then_route_of b Eoi rest) _ (λ e. then_route_fits b Eoi rest (λ level. refl))
+    (choose P (is_word (codes "trigger") name) (access_line_of b Trigger rest) _ (λ e. access_fits b Trigger rest (λ level. refl))
+    (choose P (is_word (codes "eoi") name) (access_line_of b Eoi rest) _ (λ e. access_fits b Eoi rest (λ level. refl))
+    (choose P (is_word (codes "load") name) (source_page_line_of b false rest) _ (λ e. source_page_fits b false rest)
+    (choose P (is_word (codes "store") name) (source_page_line_of b true rest) _ (λ e. source_page_fits b true rest)
     (choose P (is_word (codes "set") name) (set_line_of b rest) _ (λ e. set_fits b rest)
-    (choose P (is_word (codes "route") name) (route_line_of b rest) _ (λ e. route_fits b rest)
-    (choose P (is_word (codes "endset") name) (endset_of b at rest) _ (λ e. endset_fits b at rest)
-    (choose P (is_word (codes "hcall") name) (hcall_of rest) (Err at) (λ e. hcall_fits b rest) tt))))))))
+    (choose P (is_word (codes "get") name) (access_line_of b Get rest) _ (λ e. access_fits b Get rest (λ level. refl))
+    (choose P (is_word (codes "route") name) (route_line_of b rest) (rare_steps_by b at name rest) (λ e. route_fits b rest) (rare_steps_fits b at name rest)))))))))
 
 work_fits : (b : Board) (rest : List ℕ) → IfOk (work_of b rest) (IsWorkSaid b)
 work_fits b rest =
@@ -166,24 +245,32 @@ pages_fits rest =
     any_fits IsPages (name_at (codes "esb") rest) _ (λ u. any_fits IsPages (bounded_at 1 3 (rest_of rest)) _ (λ pages. any_fits IsPages (bounded_at 0 2 (rest_of (rest_of rest))) _ (λ eoi.
     end_fits IsPages (rest_of (rest_of (rest_of rest))) (said.Pages (pages == 2) (eoi == 1)) tt)))
 
-unclaimed_fits : (b : Board) (rest : List ℕ) → b.unclaimed.count < most_ranges → IfOk (unclaimed_of b rest) (IsLastSaid b)
-unclaimed_fits b rest room =
-    let P = IsLastSaid b in
+range_fits : (b : Board) (spans : Spans) (rest : List ℕ) → has_room spans ≡ true → IfOk (range_of b rest) (IsRange b spans)
+range_fits b spans rest room =
+    let P = IsRange b spans in
     any_fits P _ _ (λ first.
     read_fits P (Passes first b.limits.sources) (bounded_at first b.limits.sources (rest_of rest)) _ (bounded_fits first b.limits.sources (rest_of rest)) (λ last q.
-    end_fits P (rest_of (rest_of rest)) (said.Unclaimed (record { first = first; last = last }))
-    (record { room = room; ordered = at_most first last q.from; below = below last b.limits.sources q.below })))
+    end_fits P (rest_of (rest_of rest)) (record { first = first; last = last })
+    (record { room = below spans.count most_ranges room; ordered = at_most first last q.from; below = below last b.limits.sources q.below })))
 
-last_fits : (b : Board) (rest : List ℕ) → IfOk (last_line_of b rest) (IsLastSaid b)
-last_fits b rest =
-    let P = IsLastSaid b in
-    choose P (is_word (codes "unclaimed") (word_of rest) && nat_lt b.unclaimed.count most_ranges) (unclaimed_of b (rest_of rest)) _
-    (λ e. unclaimed_fits b (rest_of rest) (below b.unclaimed.count most_ranges (and_right (is_word (codes "unclaimed") (word_of rest)) (nat_lt b.unclaimed.count most_ranges) e)))
-    (choose P (is_word (codes "go") (word_of rest)) (at_end (rest_of rest) said.Go) (Err (misread_at rest)) (λ e. end_fits P (rest_of rest) said.Go tt) tt)
+level_fits : (turn : Turn) (b : Board) (rest : List ℕ) → takes_level turn b ≡ true → IfOk (range_of b rest) (IsLevelAt turn b)
+level_fits turns.Level b rest room = range_fits b b.level rest room
+level_fits _ b rest room = absurd cc
+
+last_fits : (turn : Turn) (b : Board) (rest : List ℕ) → IfOk (last_line_of turn b rest) (IsLastSaid turn b)
+last_fits turn b rest =
+    let P = IsLastSaid turn b in
+    let more = range_of b (rest_of rest) in
+    choose P (is_word (codes "level") (word_of rest) && takes_level turn b) (range_line_of b said.Level (rest_of rest)) _
+    (λ e. read_fits P (IsLevelAt turn b) more (λ span. Ok (said.Level span)) (level_fits turn b (rest_of rest) (and_right (is_word (codes "level") (word_of rest)) (takes_level turn b) e)) (λ span q. q))
+    (choose P (is_word (codes "unclaimed") (word_of rest) && has_room b.unclaimed) (range_line_of b said.Unclaimed (rest_of rest)) _
+    (λ e. read_fits P (IsRange b b.unclaimed) more (λ span. Ok (said.Unclaimed span)) (range_fits b b.unclaimed (rest_of rest) (and_right (is_word (codes "unclaimed") (word_of rest)) (has_room b.unclaimed) e)) (λ span q. q))
+    (choose P (is_word (codes "go") (word_of rest)) (at_end (rest_of rest) said.Go) (Err (misread_at rest)) (λ e. end_fits P (rest_of rest) said.Go tt) tt))
 
 header_fits : (turn : Turn) (b : Board) (rest : List ℕ) → IfOk (header_of turn b rest) (IsHeaderSaid turn b)
 header_fits turns.Esb b rest = pages_fits rest
-header_fits turns.Go b rest = last_fits b rest
+header_fits turns.Level b rest = last_fits turns.Level b rest
+header_fits turns.Unclaimed b rest = last_fits turns.Unclaimed b rest
 header_fits turns.Board b rest = number_line_fits (codes "board") 1 1 rest
 header_fits turns.Sources b rest = number_line_fits (codes "sources") 1 most_sources rest
 header_fits turns.Processors b rest = number_line_fits (codes "processors") 1 most_processors rest

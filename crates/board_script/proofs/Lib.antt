@@ -1,4 +1,5 @@
 pub mod Accounts
+pub mod Eights
 pub mod Fitting
 pub mod WorkLines
 pub mod LongLines

@@ -1,4 +1,4 @@
--- Long lines are answered alike.
+-- Long lines are refused alike.
 use Rattle.std.proofs.Common.{ℕ, ◌≡◌, ◌<◌, ◌-◌, Bool, List, length, Option, Some, None, Err, refl, sym, ◌∙◌, ap, if◌then◌else◌}
 use Rattle.std.proofs.lemmas.Bool.{lt-ltb}
 use Rattle.xv_base.specs.Limits.{longest_line}
@@ -9,12 +9,8 @@ use Rattle.board_script.specs.declared.stage.Stage.{Stage}
 use Rattle.board_script.specs.declared.stage.Stage.TheVariants.{Header, Work, Ended}
 use Rattle.board_script.specs.Words.{from_unprintable, skip, then_read}
 use Rattle.board_script.specs.Lines.{none_left, said_by, checked_of, said_of}
-use Rattle.board_script.specs.Parser.{Parsing, read_of, read_by, answer_by}
-
--- the script isn't over
-abbrev pub IsOpen : Stage → Type 0
-IsOpen Ended = ⊥
-IsOpen _ = Unit {0}
+use Rattle.board_script.specs.Stage.{IsOpen}
+use Rattle.board_script.specs.Parser.{Parsing, line_after, not_built, read_of, read_by, answer_by, parsing_by, parsing_from, parsing_after}
 
 -- where a long line is refused
 abbrev beyond : List ℕ → Misread
@@ -29,11 +25,10 @@ said_long (Header turn) b line open' long = checked_long (Header turn) b line lo
 said_long Work b line open' long = checked_long Work b line long
 said_long Ended b line open' long = absurd open'
 
-read_by_long : (f : Option ScriptFault) (p : Parsing) (l m : List ℕ) → IsOpen p.stage → longest_line < length l → longest_line < length m → read_by f p l ≡ read_by f p m
-read_by_long (Some fault) p l m open' long long' = refl
-read_by_long None p l m open' long long' =
-    ap (answer_by p) (said_long p.stage p.board l open' long) ∙ sym (ap (answer_by p) (said_long p.stage p.board m open' long'))
+-- what a parser without a fault answers a long line before the end
+pub refused_long : (p : Parsing) (line : List ℕ) → p.fault ≡ None → IsOpen p.stage → longest_line < length line → read_of p line ≡ Err (not_built (line_after p.lines))
+refused_long p line none open' long = ap (λ f. read_by f p line) none ∙ ap (answer_by p) (said_long p.stage p.board line open' long)
 
--- all long lines are answered alike, before the end
-pub read_long : (p : Parsing) (l m : List ℕ) → IsOpen p.stage → longest_line < length l → longest_line < length m → read_of p l ≡ read_of p m
-read_long p l m open' long long' = read_by_long p.fault p l m open' long long'
+-- and what becomes of it
+pub after_long : (p : Parsing) (line : List ℕ) → p.fault ≡ None → IsOpen p.stage → longest_line < length line → parsing_after p line ≡ record p { lines = line_after p.lines; fault = Some (not_built (line_after p.lines)) }
+after_long p line none open' long = ap (λ f. parsing_from f p line) none ∙ ap (parsing_by p) (said_long p.stage p.board line open' long)

@@ -19,6 +19,7 @@ goes_on : (it : Said) (p : Parsing) (work : List WorkLine) (next : Said → Scri
 goes_on say.Nothing p work next n = refl
 goes_on (say.Number k) p work next n = refl
 goes_on (say.Pages two store) p work next n = refl
+goes_on (say.Level span) p work next n = refl
 goes_on (say.Unclaimed span) p work next n = refl
 goes_on say.Go p work next n = refl
 goes_on say.End p work next n = absurd n
@@ -64,6 +65,7 @@ goes_on_so_far : (it : Said) (next : Said → Option SoFar) → IsNotEnd it → 
 goes_on_so_far say.Nothing next n = refl
 goes_on_so_far (say.Number k) next n = refl
 goes_on_so_far (say.Pages two store) next n = refl
+goes_on_so_far (say.Level span) next n = refl
 goes_on_so_far (say.Unclaimed span) next n = refl
 goes_on_so_far say.Go next n = refl
 goes_on_so_far say.End next n = absurd n

@@ -52,15 +52,18 @@ none_below spans limit other a e = record {
 
 -- the board after a line of the header is one
 header_stays : (turn : Turn) (b : Board) (it : Said) → IsBoardAt (Header turn) b → IsHeaderSaid turn b it → IsBoardAt (header_after turn it) (board_with turn it b)
-header_stays turns.Board b (said.Number n) s f = record { is_board = s.is_board; is_plain = s.is_plain; ranges = s.ranges }
+header_stays turns.Board b (said.Number n) s f = record { is_board = s.is_board; ranges = s.ranges }
 header_stays turns.Sources b (said.Number n) s f = search (rules, none_below)
 header_stays turns.Processors b (said.Number n) s f = search (rules, none_below)
 header_stays turns.Threads b (said.Number n) s f = search rules
 header_stays turns.Ram b (said.Number n) s f = search rules
 header_stays turns.Actors b (said.Number n) s f = search rules
 header_stays turns.Esb b (said.Pages two store) s f = search rules
-header_stays turns.Go b (said.Unclaimed span) s f = search (rules, below_with)
-header_stays turns.Go b said.Go s f = record { is_board = s.is_board; is_plain = s.is_plain; ranges = tt }
+header_stays turns.Level b (said.Level span) s f = search (rules, below_with)
+header_stays turns.Level b (said.Unclaimed span) s f = search (rules, below_with)
+header_stays turns.Unclaimed b (said.Unclaimed span) s f = search (rules, below_with)
+header_stays turns.Level b said.Go s f = record { is_board = s.is_board; ranges = tt }
+header_stays turns.Unclaimed b said.Go s f = record { is_board = s.is_board; ranges = tt }
 header_stays _ b _ s f = absurd f
 
 -- a line of the header that says nothing
@@ -71,12 +74,13 @@ nothing turns.Threads b s = s
 nothing turns.Ram b s = s
 nothing turns.Actors b s = s
 nothing turns.Esb b s = s
-nothing turns.Go b s = s
+nothing turns.Level b s = s
+nothing turns.Unclaimed b s = s
 nothing turns.Board b s = s
 
 -- the board after a line is one
 pub stays : (stage : Stage) (b : Board) (it : Said) → IsBoardAt stage b → IsSaidAt stage b it → IsBoardAt (stage_after stage it) (board_after stage it b)
-stays Work b said.End s f = record { is_board = s.is_board; is_plain = s.is_plain; ranges = tt }
+stays Work b said.End s f = record { is_board = s.is_board; ranges = tt }
 stays Work b it s f = s
 stays Ended b it s f = s
 stays (Header turn) b said.Nothing s f = nothing turn b s

@@ -1,14 +1,16 @@
 -- Lines of the header.
-use Rattle.std.specs.Prelude.{ℕ, ◌==◌, ◌+◌, ◌&&◌, nat_lt, if◌then◌else◌, List, codes, Option, Some, None, Err}
+use Rattle.std.specs.Prelude.{ℕ, ◌==◌, ◌+◌, ◌&&◌, nat_lt, Bool, false, if◌then◌else◌, List, codes, Option, Some, None, Ok, Err}
 use Rattle.std.specs.declared.result.Result.{Result}
 use Rattle.xv_base.specs.Limits.{most_sources, most_processors, most_threads, most_actors, most_ram_mib, most_ranges}
 use Rattle.xv_model.specs.declared.board.Board.{Board}
+use Rattle.xv_model.specs.declared.board.Span.{Span}
+use Rattle.xv_model.specs.declared.board.Spans.{Spans}
 use Rattle.board_script.specs.declared.faults.Misread.{Misread}
 use Rattle.board_script.specs.declared.stage.Turn.{Turn}
 use Rattle.board_script.specs.declared.stage.Turn.TheVariants as turns
 use Rattle.board_script.specs.declared.lines.Said.{Said}
 use Rattle.board_script.specs.declared.lines.Said.TheVariants as said
-use Rattle.board_script.specs.Words.{word_of, rest_of, is_word, misread_at, name_at, then_at, at_end}
+use Rattle.board_script.specs.Words.{word_of, rest_of, is_word, misread_at, name_at, then_read, then_at, at_end}
 use Rattle.board_script.specs.Numbers.{bounded_at}
 
 -- a line of the header that has one number: its name, and the numbers from low to most
@@ -26,7 +28,8 @@ count_of turns.Threads = Some (record { name = codes "threads"; low = 1; most = 
 count_of turns.Ram = Some (record { name = codes "ram"; low = 0; most = most_ram_mib })
 count_of turns.Actors = Some (record { name = codes "actors"; low = 1; most = most_actors })
 count_of turns.Esb = None
-count_of turns.Go = None
+count_of turns.Level = None
+count_of turns.Unclaimed = None
 
 -- a line of a name and a number from low to most
 abbrev pub number_line_of : List ℕ → ℕ → ℕ → List ℕ → Result Said Misread
@@ -41,25 +44,39 @@ pages_line_of rest =
     then_at (bounded_at 1 3) rest (λ pages rest.
     then_at (bounded_at 0 2) rest (λ eoi rest. at_end rest (said.Pages (pages == 2) (eoi == 1)))))
 
--- a range of sources that start unclaimed, by what stands after its name
-abbrev pub unclaimed_of : Board → List ℕ → Result Said Misread
-unclaimed_of b rest =
+-- a range of sources, the last two words of a line
+abbrev pub range_of : Board → List ℕ → Result Span Misread
+range_of b rest =
     then_at (bounded_at 0 b.limits.sources) rest (λ first rest.
     then_at (bounded_at first b.limits.sources) rest (λ last rest.
-    at_end rest (said.Unclaimed (record { first = first; last = last }))))
+    at_end rest (record { first = first; last = last })))
 
--- a line at the end of the header: a range, where the board has room for one more, or the end
-abbrev pub last_line_of : Board → List ℕ → Result Said Misread
-last_line_of b rest =
-    if is_word (codes "unclaimed") (word_of rest) && nat_lt b.unclaimed.count most_ranges then
-    unclaimed_of b (rest_of rest)
-    else (if is_word (codes "go") (word_of rest) then at_end (rest_of rest) said.Go else Err (misread_at rest))
+-- a line of a range of some kind, by what stands after its name
+abbrev pub range_line_of : Board → (Span → Said) → List ℕ → Result Said Misread
+range_line_of b make rest = then_read (range_of b rest) (λ span. Ok (make span))
+
+-- whether there is room for one more range of a kind
+abbrev pub has_room : Spans → Bool
+has_room spans = nat_lt spans.count most_ranges
+
+-- whether a range of level sources may come: before those of unclaimed sources, and where there is room for it
+abbrev pub takes_level : Turn → Board → Bool
+takes_level turns.Level b = has_room b.level
+takes_level _ b = false
+
+-- a line at the end of the header: a range, where one of its kind may come, or the end
+abbrev pub last_line_of : Turn → Board → List ℕ → Result Said Misread
+last_line_of turn b rest =
+    if is_word (codes "level") (word_of rest) && takes_level turn b then range_line_of b said.Level (rest_of rest)
+    else (if is_word (codes "unclaimed") (word_of rest) && has_room b.unclaimed then
+    range_line_of b said.Unclaimed (rest_of rest)
+    else (if is_word (codes "go") (word_of rest) then at_end (rest_of rest) said.Go else Err (misread_at rest)))
 
 -- a line of the header at a turn, by what that counts
 abbrev pub header_by : Option Count → Turn → Board → List ℕ → Result Said Misread
 header_by (Some c) turn b rest = number_line_of c.name c.low c.most rest
 header_by None turns.Esb b rest = pages_line_of rest
-header_by None turn b rest = last_line_of b rest
+header_by None turn b rest = last_line_of turn b rest
 
 -- a line of the header
 abbrev pub header_of : Turn → Board → List ℕ → Result Said Misread

@@ -6,6 +6,7 @@ pub mod Numbers
 pub mod Flags
 pub mod Work
 pub mod Sources
+pub mod Pages
 pub mod Configuring
 pub mod Working
 pub mod Header

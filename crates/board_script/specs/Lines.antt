@@ -4,6 +4,7 @@ use Rattle.std.specs.declared.result.Result.{Result}
 use Rattle.xv_base.specs.Limits.{longest_line, most_ranges}
 use Rattle.xv_model.specs.declared.board.Board.{Board}
 use Rattle.xv_model.specs.declared.board.Span.{Span}
+use Rattle.xv_model.specs.declared.board.Spans.{Spans}
 use Rattle.board_script.specs.declared.faults.Misread.{Misread}
 use Rattle.board_script.specs.declared.stage.Turn.{Turn}
 use Rattle.board_script.specs.declared.stage.Turn.TheVariants as turns
@@ -58,6 +59,7 @@ abbrev pub line_by : Board → Said → Line
 line_by b said.Nothing = line.Nothing
 line_by b (said.Number n) = line.Header
 line_by b (said.Pages two store) = line.Header
+line_by b (said.Level span) = line.Header
 line_by b (said.Unclaimed span) = line.Header
 line_by b said.Go = line.Go b
 line_by b said.End = line.End
@@ -73,23 +75,29 @@ abbrev pub IsPages : Said → Type 0
 IsPages (said.Pages two_pages store_eoi) = Unit {0}
 IsPages _ = ⊥
 
--- one more range of sources that start unclaimed: there is room for it, and it is one of the board's sources
-pub record IsRange (b : Board) (span : Span) : Type 0 where
-  pub room : b.unclaimed.count < most_ranges
+-- one more range of sources beside these of its kind: there is room for it, and it is one of the board's sources
+pub record IsRange (b : Board) (spans : Spans) (span : Span) : Type 0 where
+  pub room : spans.count < most_ranges
   pub ordered : span.first ≤ span.last
   pub below : span.last < b.limits.sources
 
--- a range, or the end of the header
-abbrev pub IsLastSaid : Board → Said → Type 0
-IsLastSaid b (said.Unclaimed span) = IsRange b span
-IsLastSaid b said.Go = Unit {0}
-IsLastSaid b _ = ⊥
+-- a range of level sources, before those of unclaimed sources
+abbrev pub IsLevelAt : Turn → Board → Span → Type 0
+IsLevelAt turns.Level b span = IsRange b b.level span
+IsLevelAt _ b span = ⊥
+
+-- a range of a kind that may come at a turn, or the end of the header
+abbrev pub IsLastSaid : Turn → Board → Said → Type 0
+IsLastSaid turn b (said.Level span) = IsLevelAt turn b span
+IsLastSaid turn b (said.Unclaimed span) = IsRange b b.unclaimed span
+IsLastSaid turn b said.Go = Unit {0}
+IsLastSaid turn b _ = ⊥
 
 -- what a line of the header says at a turn fits what that counts
 abbrev pub IsHeaderBy : Option Count → Turn → Board → Said → Type 0
 IsHeaderBy (Some c) turn b it = IsNumber c.low c.most it
 IsHeaderBy None turns.Esb b it = IsPages it
-IsHeaderBy None turn b it = IsLastSaid b it
+IsHeaderBy None turn b it = IsLastSaid turn b it
 
 -- what a line of the header says has the form and the range of its turn
 abbrev pub IsHeaderSaid : Turn → Board → Said → Type 0

@@ -1,19 +1,16 @@
 -- How far a script is read: the stage and the board after a line.
-use Rattle.std.specs.Prelude.{◌≡◌, ◌+◌, false, replicate, slice_set}
+use Rattle.std.specs.Prelude.{◌≡◌, ◌+◌, false, slice_set}
 use Rattle.xv_model.specs.declared.board.Board.{Board}
 use Rattle.xv_model.specs.declared.board.Span.{Span}
 use Rattle.xv_model.specs.declared.board.Spans.{Spans}
-use Rattle.xv_model.specs.board.Boards.{IsBoard, IsPlain}
+use Rattle.xv_model.specs.declared.board.TheConstants.Spans.{NONE}
+use Rattle.xv_model.specs.board.Boards.{IsBoard}
 use Rattle.board_script.specs.declared.stage.Turn.{Turn}
 use Rattle.board_script.specs.declared.stage.Turn.TheVariants as turns
 use Rattle.board_script.specs.declared.stage.Stage.{Stage}
 use Rattle.board_script.specs.declared.stage.Stage.TheVariants.{Header, Work, Ended}
 use Rattle.board_script.specs.declared.lines.Said.{Said}
 use Rattle.board_script.specs.declared.lines.Said.TheVariants as said
-
--- no ranges
-abbrev pub no_spans : Spans
-no_spans = record { count = 0; spans = replicate 16 (record { first = 0; last = 0 }) }
 
 -- the board before the first line: the least one, without ranges
 abbrev pub first_board : Board
@@ -22,9 +19,9 @@ first_board = record {
   ram_mib = 0;
   two_pages = false;
   store_eoi = false;
-  level = no_spans;
-  unclaimed = no_spans;
-  unconnected = no_spans;
+  level = NONE;
+  unclaimed = NONE;
+  unconnected = NONE;
 }
 
 -- which line of the header follows
@@ -35,12 +32,19 @@ next_turn turns.Processors = turns.Threads
 next_turn turns.Threads = turns.Ram
 next_turn turns.Ram = turns.Actors
 next_turn turns.Actors = turns.Esb
-next_turn turns.Esb = turns.Go
-next_turn turns.Go = turns.Go
+next_turn turns.Esb = turns.Level
+next_turn turns.Level = turns.Level
+next_turn turns.Unclaimed = turns.Unclaimed
+
+-- the script isn't over
+abbrev pub IsOpen : Stage → Type 0
+IsOpen Ended = ⊥
+IsOpen stage = Unit {0}
 
 -- the stage after a line of the header
 abbrev pub header_after : Turn → Said → Stage
 header_after turn said.Nothing = Header turn
+header_after turn (said.Unclaimed span) = Header turns.Unclaimed
 header_after turn said.Go = Work
 header_after turn _ = Header (next_turn turn)
 
@@ -62,7 +66,9 @@ board_with turns.Threads (said.Number n) b = record b { limits = record b.limits
 board_with turns.Ram (said.Number n) b = record b { ram_mib = n }
 board_with turns.Actors (said.Number n) b = record b { limits = record b.limits { actors = n } }
 board_with turns.Esb (said.Pages two store) b = record b { two_pages = two; store_eoi = store }
-board_with turns.Go (said.Unclaimed span) b = record b { unclaimed = spans_with span b.unclaimed }
+board_with turns.Level (said.Level span) b = record b { level = spans_with span b.level }
+board_with turns.Level (said.Unclaimed span) b = record b { unclaimed = spans_with span b.unclaimed }
+board_with turns.Unclaimed (said.Unclaimed span) b = record b { unclaimed = spans_with span b.unclaimed }
 board_with _ _ b = b
 
 -- the board after a line: the lines of the header make it
@@ -70,18 +76,18 @@ abbrev pub board_after : Stage → Said → Board → Board
 board_after (Header turn) it b = board_with turn it b
 board_after _ it b = b
 
--- the ranges of sources that lines before this turn can give: none before the last lines
-abbrev pub HasRangesAt : Turn → Spans → Type 0
-HasRangesAt turns.Go spans = Unit {0}
-HasRangesAt _ spans = spans.count ≡ 0
+-- the board has the ranges that lines before this turn can give: none before the last lines, and none of processors yet
+abbrev pub HasRangesAt : Turn → Board → Type 0
+HasRangesAt turns.Unclaimed b = b.unconnected.count ≡ 0
+HasRangesAt turns.Level b = (b.unclaimed.count ≡ 0) × (b.unconnected.count ≡ 0)
+HasRangesAt _ b = (b.level.count ≡ 0) × (b.unclaimed.count ≡ 0) × (b.unconnected.count ≡ 0)
 
--- the ranges that a stage can have met
-abbrev pub HasRanges : Stage → Spans → Type 0
-HasRanges (Header turn) spans = HasRangesAt turn spans
-HasRanges _ spans = Unit {0}
+-- the board has the ranges that a stage can have met
+abbrev pub HasRanges : Stage → Board → Type 0
+HasRanges (Header turn) b = HasRangesAt turn b
+HasRanges _ b = Unit {0}
 
--- the board so far is one without level sources and unconnected processors, which the lines so far can give
+-- the board so far is one that the lines so far can give
 pub record IsBoardAt (stage : Stage) (b : Board) : Type 0 where
   pub is_board : IsBoard b
-  pub is_plain : IsPlain b
-  pub ranges : HasRanges stage b.unclaimed
+  pub ranges : HasRanges stage b

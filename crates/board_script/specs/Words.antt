@@ -4,10 +4,14 @@ use Rattle.std.specs.declared.result.Result.{Result}
 use Rattle.std.specs.Cmp.Lexicographic.{pointwise}
 use Rattle.board_script.specs.declared.faults.Misread.{Misread}
 
--- what stands from the first byte on that isn't from 0x20 to 0x7e
+-- whether a byte may stand in a line: it is from 0x20 to 0x7e
+abbrev pub may_stand : ℕ → Bool
+may_stand b = nat_le 32 b && nat_le b 126
+
+-- what stands from the first byte on that may not stand in a line
 abbrev pub from_unprintable : List ℕ → List ℕ
 from_unprintable [] = []
-from_unprintable (b ∷ bs) = if nat_le 32 b && nat_le b 126 then from_unprintable bs else b ∷ bs
+from_unprintable (b ∷ bs) = if may_stand b then from_unprintable bs else b ∷ bs
 
 -- a line without the spaces at its front
 abbrev pub skip : List ℕ → List ℕ
@@ -45,10 +49,14 @@ is_word name word = pointwise nat_eq word name
 abbrev pub misread_at : List ℕ → Misread
 misread_at rest = record { left = length rest }
 
+-- what a word is, or where it is refused
+abbrev pub value_or : {A : Type 0} → Option A → Misread → Result A Misread
+value_or (Some x) at = Ok x
+value_or None at = Err at
+
 -- what is read of the next word, where it is something
 abbrev pub value_at : {A : Type 0} → Option A → List ℕ → Result A Misread
-value_at (Some x) rest = Ok x
-value_at None rest = Err (misread_at rest)
+value_at m rest = value_or m (misread_at rest)
 
 -- the next word is this one
 abbrev pub name_at : List ℕ → List ℕ → Result (Unit {0}) Misread

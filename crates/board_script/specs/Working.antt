@@ -1,29 +1,42 @@
 -- Lines after the header.
-use Rattle.std.specs.Prelude.{ℕ, if◌then◌else◌, List, codes, Ok, Err}
+use Rattle.std.specs.Prelude.{ℕ, true, false, if◌then◌else◌, List, codes, Ok, Err}
 use Rattle.std.specs.declared.result.Result.{Result}
 use Rattle.xv_model.specs.declared.board.Board.{Board}
-use Rattle.xv_model.specs.declared.operations.PqOp.TheVariants.{Trigger, Eoi, Get}
+use Rattle.xv_model.specs.declared.operations.PqOp.TheVariants.{Trigger, Eoi, Get, Raise, Lower}
 use Rattle.board_script.specs.declared.faults.Misread.{Misread}
 use Rattle.board_script.specs.declared.lines.Said.{Said}
 use Rattle.board_script.specs.declared.lines.Said.TheVariants as said
 use Rattle.board_script.specs.declared.work.Work.{Work}
 use Rattle.board_script.specs.Words.{word_of, rest_of, is_word, misread_at, then_read, then_at, at_end}
 use Rattle.board_script.specs.Numbers.{bounded_at}
-use Rattle.board_script.specs.Sources.{access_line_of, set_line_of, route_line_of, then_route_of}
+use Rattle.board_script.specs.Sources.{access_line_of, set_line_of, route_line_of, then_route_of, level_line_of, assert_line_of, init_line_of}
+use Rattle.board_script.specs.Pages.{source_page_line_of, end_page_line_of}
 use Rattle.board_script.specs.Configuring.{endset_of, hcall_of}
 
--- the work of a line, by the name of its operation and what stands after it; an unknown name is refused there
+-- the work of a line, by a name that comes less often; an unknown name is refused there
+abbrev pub rare_steps_by : Board → Misread → List ℕ → List ℕ → Result Work Misread
+rare_steps_by b at name rest =
+    if is_word (codes "raise") name then level_line_of b at Raise rest
+    else (if is_word (codes "lower") name then level_line_of b at Lower rest
+    else (if is_word (codes "assert") name then assert_line_of b at rest
+    else (if is_word (codes "init") name then init_line_of b at rest
+    else (if is_word (codes "endload") name then end_page_line_of b false rest
+    else (if is_word (codes "endstore") name then end_page_line_of b true rest
+    else (if is_word (codes "endset") name then endset_of b at rest
+    else (if is_word (codes "hcall") name then hcall_of rest else Err at)))))))
+
+-- the work of a line, by the name of its operation and what stands after it
 abbrev pub steps_by : Board → Misread → List ℕ → List ℕ → Result Work Misread
 steps_by b at name rest =
     if is_word (codes "fire") name then then_route_of b Trigger rest
     else (if is_word (codes "finish") name then then_route_of b Eoi rest
     else (if is_word (codes "trigger") name then access_line_of b Trigger rest
     else (if is_word (codes "eoi") name then access_line_of b Eoi rest
-    else (if is_word (codes "get") name then access_line_of b Get rest
+    else (if is_word (codes "load") name then source_page_line_of b false rest
+    else (if is_word (codes "store") name then source_page_line_of b true rest
     else (if is_word (codes "set") name then set_line_of b rest
-    else (if is_word (codes "route") name then route_line_of b rest
-    else (if is_word (codes "endset") name then endset_of b at rest
-    else (if is_word (codes "hcall") name then hcall_of rest else Err at))))))))
+    else (if is_word (codes "get") name then access_line_of b Get rest
+    else (if is_word (codes "route") name then route_line_of b rest else rare_steps_by b at name rest))))))))
 
 -- the work of a line, from the name of its operation on
 abbrev pub steps_of : Board → List ℕ → Result Work Misread

@@ -1,7 +1,7 @@
 //! Lines of the header.
 
 ghost use Rattle.std.specs.Prelude.{◌≡◌, ◌<◌};
-ghost use Rattle.board_script.specs.Header.{number_line_of, pages_line_of, unclaimed_of, last_line_of, header_of};
+ghost use Rattle.board_script.specs.Header.{number_line_of, pages_line_of, range_of, has_room, takes_level, last_line_of, header_of};
 
 use crate::faults::Misread;
 use crate::lines::Said;
@@ -10,7 +10,7 @@ use crate::words::{Words, same};
 use xv_base::limits::{
     MOST_ACTORS, MOST_PROCESSORS, MOST_RAM_MIB, MOST_RANGES, MOST_SOURCES, MOST_THREADS,
 };
-use xv_model::board::{Board, Span};
+use xv_model::board::{Board, Span, Spans};
 
 /// A line of a name and a number from `low` to `most`.
 fn number_line(name: &[u8], low: u32, most: u32, words: &mut Words) -> Result<Said, Misread>
@@ -37,26 +37,46 @@ fn pages_line(words: &mut Words) -> Result<Said, Misread>
     })
 }
 
-/// A range of sources that start unclaimed, by what stands after its name.
-fn unclaimed_line(board: &Board, words: &mut Words) -> Result<Said, Misread>
-    ensures { result ≡ unclaimed_of board.now words.old }
+/// A range of sources, the last two words of a line.
+fn range(board: &Board, words: &mut Words) -> Result<Span, Misread>
+    ensures { result ≡ range_of board.now words.old }
 {
     let first = words.bounded(0, board.limits.sources)?;
     let last = words.bounded(first, board.limits.sources)?;
     words.done()?;
-    Ok(Said::Unclaimed {
-        span: Span { first, last },
-    })
+    Ok(Span { first, last })
 }
 
-/// A line at the end of the header: a range, where the board has room for one more, or the end.
-fn last_line(board: &Board, words: &mut Words) -> Result<Said, Misread>
-    ensures { result ≡ last_line_of board.now words.old }
+/// Whether there is room for one more range of a kind.
+fn has_room_for(spans: &Spans) -> bool
+    ensures { result ≡ has_room spans.now }
+{
+    (spans.count as u32) < MOST_RANGES
+}
+
+/// Whether a range of level sources may come: before those of unclaimed sources, and where there is room for it.
+fn may_be_level(turn: Turn, board: &Board) -> bool
+    ensures { result ≡ takes_level turn board.now }
+{
+    match turn {
+        Turn::Level => has_room_for(&board.level),
+        _ => false,
+    }
+}
+
+/// A line at the end of the header: a range, where one of its kind may come, or the end.
+fn last_line(turn: Turn, board: &Board, words: &mut Words) -> Result<Said, Misread>
+    ensures { result ≡ last_line_of turn board.now words.old }
 {
     let here = words.here();
     let name = words.next();
-    if same(name, b"unclaimed") && (board.unclaimed.count as u32) < MOST_RANGES {
-        return unclaimed_line(board, words);
+    if same(name, b"level") && may_be_level(turn, board) {
+        let span = range(board, words)?;
+        return Ok(Said::Level { span });
+    }
+    if same(name, b"unclaimed") && has_room_for(&board.unclaimed) {
+        let span = range(board, words)?;
+        return Ok(Said::Unclaimed { span });
     }
     if same(name, b"go") {
         words.done()?;
@@ -77,6 +97,6 @@ pub fn header_line(turn: Turn, board: &Board, words: &mut Words) -> Result<Said,
         Turn::Ram => number_line(b"ram", 0, MOST_RAM_MIB, words),
         Turn::Actors => number_line(b"actors", 1, MOST_ACTORS, words),
         Turn::Esb => pages_line(words),
-        Turn::Go => last_line(board, words),
+        Turn::Level | Turn::Unclaimed => last_line(turn, board, words),
     }
 }

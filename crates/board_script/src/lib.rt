@@ -8,6 +8,7 @@ mod header;
 pub mod laws;
 pub mod lines;
 mod numbers;
+mod pages;
 pub mod parser;
 mod sources;
 pub mod stage;

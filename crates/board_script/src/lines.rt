@@ -38,6 +38,8 @@ pub enum Said {
     Number { n: u32 },
     /// How many pages a source has, and whether a store is an EOI.
     Pages { two_pages: bool, store_eoi: bool },
+    /// Level sources.
+    Level { span: Span },
     /// Sources that start without a valid EAS.
     Unclaimed { span: Span },
     /// The header is whole.

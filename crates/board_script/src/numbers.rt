@@ -1,7 +1,8 @@
 //! The numbers and pairs of a line.
 
 ghost use Rattle.std.specs.Prelude.{◌≡◌, ◌<◌, ◌≤◌, IfSome, IfOk};
-ghost use Rattle.board_script.specs.Numbers.{decimal_of, hexadecimal_of, digit_of, number_of, pair_of};
+ghost use Rattle.board_script.specs.Numbers.{decimal_of, hexadecimal_of, digit_of, number_of, in_bounds, pair_of};
+ghost use Rattle.board_script.specs.Words.{value_or};
 
 use crate::faults::Misread;
 use crate::words::{Words, same};
@@ -102,6 +103,23 @@ fn pair(word: &[u8]) -> Option<u8>
     None
 }
 
+/// The number from `low` on and below `high` that a word is; another word is refused `here`.
+pub fn bounded(here: Misread, word: &[u8], low: u32, high: u32) -> Result<u32, Misread>
+    ensures value { result ≡ value_or (in_bounds (number_of word.now) low high) here }
+    ensures bounds { IfOk result (λ n. (low ≤ n) × (n < high)) }
+{
+    match number(word) {
+        Some(n) => {
+            if low as u64 <= n && n < high as u64 {
+                Ok(n as u32)
+            } else {
+                Err(here)
+            }
+        }
+        None => Err(here),
+    }
+}
+
 impl<'a> Words<'a> {
     ghost use Rattle.board_script.specs.Words.{rest_of};
     ghost use Rattle.board_script.specs.Numbers.{number_at, bounded_at, word32_at, end_number_at, pair_at};
@@ -122,16 +140,7 @@ impl<'a> Words<'a> {
         ensures rest { self.new ≡ rest_of self.old }
     {
         let here = self.here();
-        match number(self.next()) {
-            Some(n) => {
-                if low as u64 <= n && n < high as u64 {
-                    Ok(n as u32)
-                } else {
-                    Err(here)
-                }
-            }
-            None => Err(here),
-        }
+        bounded(here, self.next(), low, high)
     }
 
     /// Reads a number below 2 ^ 32.

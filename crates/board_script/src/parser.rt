@@ -1,8 +1,9 @@
 //! The parser of a script, which is fed a line at a time.
 
-ghost use Rattle.std.specs.Prelude.{◌≡◌, false, IfOk};
-ghost use Rattle.xv_model.specs.board.Boards.{IsBoard, IsPlain};
-ghost use Rattle.board_script.specs.Stage.{first_board};
+ghost use Rattle.std.specs.Prelude.{◌≡◌, ◌<◌, ℕ, List, length, false, Err, IfOk};
+ghost use Rattle.xv_base.specs.Limits.{longest_line};
+ghost use Rattle.xv_model.specs.board.Boards.{IsBoard};
+ghost use Rattle.board_script.specs.Stage.{first_board, IsOpen};
 ghost use Rattle.board_script.specs.Parser.{not_built};
 
 use crate::faults::{Cause, ScriptFault};
@@ -10,8 +11,7 @@ use crate::lines::{Line, Said, read, whole_line};
 use crate::stage::{Stage, Turn, advance};
 use std::marker::Model;
 use xv_base::Limits;
-use xv_base::limits::MOST_RANGES;
-use xv_model::board::{Board, Span, Spans};
+use xv_model::board::{Board, Spans};
 
 /// A parser. A contract sees how far it has read, the board so far, how many lines it was fed, and the fault
 /// that is sticky.
@@ -35,11 +35,6 @@ impl Model for Parser {
     ghost invariant = { λ p. IsBoardAt p.stage p.board };
 }
 
-const NO_SPANS: Spans = Spans {
-    count: 0,
-    spans: [Span { first: 0, last: 0 }; MOST_RANGES as usize],
-};
-
 /// The board before the first line.
 fn least_board() -> Board
     ensures { result ≡ first_board }
@@ -54,9 +49,9 @@ fn least_board() -> Board
         ram_mib: 0,
         two_pages: false,
         store_eoi: false,
-        level: NO_SPANS,
-        unclaimed: NO_SPANS,
-        unconnected: NO_SPANS,
+        level: Spans::NONE,
+        unclaimed: Spans::NONE,
+        unconnected: Spans::NONE,
     }
 }
 
@@ -112,11 +107,27 @@ impl Parser {
         }
     }
 
+    /// Refuses a line that is too long, whatever it has besides, as `read` does. The script isn't over.
+    pub fn refuse_long(&mut self) -> ScriptFault
+        requires { IsOpen self.old.stage }
+        ensures value { (line : List ℕ) →
+            longest_line < length line → read_of self.old line ≡ Err result }
+        ensures after { (line : List ℕ) →
+            longest_line < length line → self.new ≡ parsing_after self.old line }
+    {
+        if let Some(fault) = self.fault {
+            return fault;
+        }
+        self.lines = self.lines.saturating_add(1);
+        let fault = refusal(self.lines);
+        self.fault = Some(fault);
+        fault
+    }
+
     /// The board so far: that of the script once its header is whole.
     pub fn board(&self) -> &Board
         ensures value { result.now ≡ self.now.board }
         ensures is_board { IsBoard result.now }
-        ensures is_plain { IsPlain result.now }
     {
         &self.board
     }

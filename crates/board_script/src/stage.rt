@@ -19,7 +19,10 @@ pub enum Turn {
     Ram,
     Actors,
     Esb,
-    Go,
+    /// A range of either kind, or `go`.
+    Level,
+    /// A range of unclaimed sources, or `go`.
+    Unclaimed,
 }
 
 /// What may come next: a line of the header, a line of work, or nothing that counts.
@@ -41,8 +44,9 @@ fn turn_after(turn: Turn) -> Turn
         Turn::Threads => Turn::Ram,
         Turn::Ram => Turn::Actors,
         Turn::Actors => Turn::Esb,
-        Turn::Esb => Turn::Go,
-        Turn::Go => Turn::Go,
+        Turn::Esb => Turn::Level,
+        Turn::Level => Turn::Level,
+        Turn::Unclaimed => Turn::Unclaimed,
     }
 }
 
@@ -52,6 +56,9 @@ fn after_header_line(turn: Turn, said: &Said) -> Stage
 {
     match said {
         Said::Nothing => Stage::Header { turn },
+        Said::Unclaimed { .. } => Stage::Header {
+            turn: Turn::Unclaimed,
+        },
         Said::Go => Stage::Work,
         _ => Stage::Header {
             turn: turn_after(turn),
@@ -89,7 +96,9 @@ fn extend(board: &mut Board, turn: Turn, said: &Said)
             board.two_pages = two_pages;
             board.store_eoi = store_eoi;
         }
-        (Turn::Go, Said::Unclaimed { span }) => add_span(&mut board.unclaimed, span),
+        (Turn::Level, Said::Level { span }) => add_span(&mut board.level, span),
+        (Turn::Level, Said::Unclaimed { span }) => add_span(&mut board.unclaimed, span),
+        (Turn::Unclaimed, Said::Unclaimed { span }) => add_span(&mut board.unclaimed, span),
         _ => {}
     }
 }

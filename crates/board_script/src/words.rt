@@ -1,7 +1,8 @@
 //! The words of a line, read from the left.
 
 ghost use Rattle.std.specs.Prelude.{◌≡◌, ◌≤◌, length};
-ghost use Rattle.board_script.specs.Words.{from_unprintable, skip, word_len, is_word};
+ghost use Rattle.std.specs.List.{list_all};
+ghost use Rattle.board_script.specs.Words.{may_stand, from_unprintable, skip, word_len, is_word};
 
 use crate::faults::Misread;
 use std::marker::Model;
@@ -20,13 +21,49 @@ impl<'a> Model for Words<'a> {
     ghost view = { λ w. w.rest.now };
 }
 
+/// Whether a byte may stand in a line.
+fn is_printable(b: u8) -> bool
+    ensures { result ≡ may_stand b }
+{
+    0x20 <= b && b <= 0x7e
+}
+
+/// Whether each of eight bytes may stand in a line. They are looked at together, without a branch.
+fn are_printable(eight: &[u8]) -> bool
+    requires { length eight.now ≡ 8 }
+    ensures { result ≡ list_all may_stand eight.now }
+{
+    match eight {
+        [a, b, c, d, e, f, g, h] => {
+            (is_printable(*a) & is_printable(*b) & is_printable(*c) & is_printable(*d))
+                & (is_printable(*e) & is_printable(*f) & is_printable(*g) & is_printable(*h))
+        }
+        _ => unreachable!(),
+    }
+}
+
+/// What is left of a line behind bytes that may stand in it, eight by eight.
+fn behind_eights(line: &[u8]) -> &[u8]
+    ensures { from_unprintable result.now ≡ from_unprintable line.now }
+{
+    let mut rest = line;
+    while rest.len() >= 8 {
+        let (eight, more) = rest.split_at(8);
+        if !are_printable(eight) {
+            return rest;
+        }
+        rest = more;
+    }
+    rest
+}
+
 /// What stands from the first byte on that may not stand in a line.
 pub fn unprintable(line: &[u8]) -> &[u8]
     ensures { result.now ≡ from_unprintable line.now }
 {
-    let mut rest = line;
+    let mut rest = behind_eights(line);
     while let [first, more @ ..] = rest {
-        if *first < 0x20 || *first > 0x7e {
+        if !is_printable(*first) {
             return rest;
         }
         rest = more;
@@ -97,13 +134,6 @@ impl<'a> Words<'a> {
         Misread {
             left: self.rest.len(),
         }
-    }
-
-    /// The next word, empty where there is none.
-    pub fn peek(&self) -> &'a [u8]
-        ensures { result.now ≡ word_of self.now }
-    {
-        &self.rest[..first_len(self.rest)]
     }
 
     /// Reads the next word, empty where there is none.

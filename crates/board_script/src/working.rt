@@ -1,19 +1,59 @@
 //! Lines after the header.
 
 ghost use Rattle.std.specs.Prelude.{◌≡◌};
-ghost use Rattle.board_script.specs.Working.{steps_by, steps_of, work_of};
+ghost use Rattle.board_script.specs.Working.{rare_steps_by, steps_by, steps_of, work_of};
 
 use crate::configuring::{endset, hcall};
 use crate::faults::Misread;
 use crate::lines::Said;
-use crate::sources::{access_line, route_line, set_line, then_route};
+use crate::numbers::bounded;
+use crate::pages::{end_page_line, source_page_line};
+use crate::sources::{
+    access_line, assert_line, init_line, level_line, route_line, set_line, then_route,
+};
 use crate::words::{Words, same};
 use crate::work::Work;
 use xv_model::board::Board;
 use xv_model::operations::PqOp;
 
+/// The work of a line, by a name that comes less often; an unknown one is refused `here`.
+fn named_rarely(
+    board: &Board,
+    here: Misread,
+    name: &[u8],
+    words: &mut Words,
+) -> Result<Work, Misread>
+    ensures { result ≡ rare_steps_by board.now here name.now words.old }
+{
+    if same(name, b"raise") {
+        return level_line(board, here, PqOp::Raise, words);
+    }
+    if same(name, b"lower") {
+        return level_line(board, here, PqOp::Lower, words);
+    }
+    if same(name, b"assert") {
+        return assert_line(board, here, words);
+    }
+    if same(name, b"init") {
+        return init_line(board, here, words);
+    }
+    if same(name, b"endload") {
+        return end_page_line(board, false, words);
+    }
+    if same(name, b"endstore") {
+        return end_page_line(board, true, words);
+    }
+    if same(name, b"endset") {
+        return endset(board, here, words);
+    }
+    if same(name, b"hcall") {
+        return hcall(words);
+    }
+    Err(here)
+}
+
 /// The work of a line, by the name of its operation and what stands after it. The names that come most often
-/// are tried first; an unknown one is refused `here`.
+/// are tried first.
 fn named(board: &Board, here: Misread, name: &[u8], words: &mut Words) -> Result<Work, Misread>
     ensures { result ≡ steps_by board.now here name.now words.old }
 {
@@ -29,22 +69,22 @@ fn named(board: &Board, here: Misread, name: &[u8], words: &mut Words) -> Result
     if same(name, b"eoi") {
         return access_line(board, PqOp::Eoi, words);
     }
-    if same(name, b"get") {
-        return access_line(board, PqOp::Get, words);
+    if same(name, b"load") {
+        return source_page_line(board, false, words);
+    }
+    if same(name, b"store") {
+        return source_page_line(board, true, words);
     }
     if same(name, b"set") {
         return set_line(board, words);
     }
+    if same(name, b"get") {
+        return access_line(board, PqOp::Get, words);
+    }
     if same(name, b"route") {
         return route_line(board, words);
     }
-    if same(name, b"endset") {
-        return endset(board, here, words);
-    }
-    if same(name, b"hcall") {
-        return hcall(words);
-    }
-    Err(here)
+    named_rarely(board, here, name, words)
 }
 
 /// The work of a line, from the name of its operation on.
@@ -60,12 +100,13 @@ fn steps(board: &Board, words: &mut Words) -> Result<Work, Misread>
 pub fn work_line(board: &Board, words: &mut Words) -> Result<Said, Misread>
     ensures { result ≡ work_of board.now words.old }
 {
-    if same(words.peek(), b"end") {
-        words.next();
+    let here = words.here();
+    let word = words.next();
+    if same(word, b"end") {
         words.done()?;
         return Ok(Said::End);
     }
-    let actor = words.bounded(0, board.limits.actors)?;
+    let actor = bounded(here, word, 0, board.limits.actors)?;
     let work = steps(board, words)?;
     Ok(Said::Work { actor, work })
 }
