@@ -12,17 +12,14 @@ use Rattle.xv_model.specs.account.Legal.{legal}
 use Rattle.xv_model.specs.board.Validity.{valid}
 use Rattle.xv_model.specs.source.Notices.{all_outstanding}
 use Rattle.account.specs.text.Entry.{entry_line}
-use Rattle.machine.specs.Machine.{Held, StandsFor}
+use Rattle.machine.proofs.Burdens.{burden_of-is}
+use Rattle.machine.specs.Machine.{Held, StandsFor, burden_of}
 use Rattle.board_script.specs.declared.work.Work.{Work}
 use Rattle.board_script.specs.Script.{WorkLine, line_for}
 use Rattle.board_script.specs.Work.{next_op, load, Falls}
 use Rattle.xive_cli.specs.Output.{Told, Tells, Fails}
-use Rattle.xive_cli.specs.Line.{burden_of, entry_of, TellsEntry, FailsEntry, part_text, IsLegalPart, RunsPart}
+use Rattle.xive_cli.specs.Line.{entry_of, TellsEntry, FailsEntry, part_text, IsLegalPart, RunsPart}
 use Rattle.xive_cli.proofs.Telling.{tells_both, fails_after}
-
--- the burden of a machine is that of the account that it represents
-pub burden_is : (m : Held) (z : Start) (h : List Entry) → StandsFor m z h → burden_of m ≡ burden z h
-burden_is m z h st = ap (λ n. 4 * n + weight m.tables.messages) st.notices ∙ ap (λ (ms : List Message). 4 * all_outstanding z h + weight ms) st.parts.tables.messages
 
 -- the line makes this operation next, on the board of the machine
 pub record MakesNext (w : WorkLine) (m : Held) (o : Op) (z : Start) (before part : List Entry) : Type 0 where
@@ -71,8 +68,8 @@ pub load_falls : (w : WorkLine) (going going' : Work) (last : Option Outcome) (m
 load_falls w going going' last m m' o outcome t0 t t' z before part r n e falls =
     let x = entry_of w.actor o outcome in
     let ran = entry_ran w m m' o outcome t0 t t' z before part r n e in
-    subst (λ b. load going' (Some outcome) b < load going last (burden_of m)) (sym (burden_is m' z (x ∷ (part ++ before)) ran.stands))
-    (subst (λ b. load going' (Some outcome) (burden z (x ∷ (part ++ before))) < load going last b) (sym (burden_is m z (part ++ before) r.stands)) (falls x refl ran.is_part.legal))
+    subst (λ b. load going' (Some outcome) b < load going last (burden_of m)) (sym (burden_of-is m' z (x ∷ (part ++ before)) ran.stands))
+    (subst (λ b. load going' (Some outcome) (burden z (x ∷ (part ++ before))) < load going last b) (sym (burden_of-is m z (part ++ before) r.stands)) (falls x refl ran.is_part.legal))
 
 -- a line that makes an operation had some load
 pub some_load : (w : WorkLine) (going going' : Work) (last : Option Outcome) (m : Held) (o : Op) (t0 t : Told) (z : Start) (before part : List Entry) → RunsPart w m t0 t z before part → MakesNext w m o z before part →
@@ -80,7 +77,7 @@ pub some_load : (w : WorkLine) (going going' : Work) (last : Option Outcome) (m 
 some_load w going going' last m o t0 t z before part r n falls =
     let x = entry_of w.actor o (legal z (part ++ before) o) in
     let p = goes_legally w m o (legal z (part ++ before) o) z before part r.is_part r.stands n refl in
-    let less = subst (λ b. load going' (Some x.outcome) (burden z (x ∷ (part ++ before))) < load going last b) (sym (burden_is m z (part ++ before) r.stands)) (falls x refl p.legal) in
+    let less = subst (λ b. load going' (Some x.outcome) (burden z (x ∷ (part ++ before))) < load going last b) (sym (burden_of-is m z (part ++ before) r.stands)) (falls x refl p.legal) in
     omega (arith, less)
 
 pub entry_is : (x : Entry) (actor : ℕ) (o : Op) → x.actor ≡ actor → x.op ≡ o → entry_of actor o x.outcome ≡ x

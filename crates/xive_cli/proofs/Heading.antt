@@ -10,14 +10,14 @@ use Rattle.board_script.specs.declared.stage.Stage.TheVariants.{Header, Work, En
 use Rattle.xv_model.specs.declared.board.Span.{Span}
 use Rattle.board_script.specs.declared.work.Work.{Work as AWork}
 use Rattle.board_script.specs.Lines.{IsSaidAt, IsHeaderSaid}
-use Rattle.board_script.specs.Stage.{stage_after}
+use Rattle.board_script.specs.Stage.{stage_after, IsOpen}
 use Rattle.board_script.specs.Parser.{Parsing, board_by, whole_board}
 use Rattle.board_script.specs.Script.{Script, Refused as Rejected, TooLong as Exceeds, SoFar, so_far}
 use Rattle.xive_cli.specs.declared.stop.Stop.{Stop}
 use Rattle.xive_cli.specs.declared.stop.Stop.TheVariants.{ReadFault, WriteFault, Refused, TooLong, NoMemory}
 use Rattle.xive_cli.specs.Input.{Unread, script_left}
 use Rattle.xive_cli.specs.Output.{Told, Tells}
-use Rattle.xive_cli.specs.Reading.{GoesOn, IsScript, IsOpen, IsInHeader, Says, StopsReading}
+use Rattle.xive_cli.specs.Reading.{GoesOn, IsScript, IsInHeader, Says, StopsReading}
 use Rattle.xive_cli.specs.Stop.{Stops, EndsEarly}
 use Rattle.xive_cli.specs.commands.Run.{output_of}
 use Rattle.xive_cli.proofs.Telling.{risen_from, tells_both, fails_after}
@@ -34,11 +34,13 @@ header_board Work b h = absurd h
 header_board Ended b h = absurd h
 
 end_said : (turn : Turn) (b : Board) → IsHeaderSaid turn b said.End → ⊥
-end_said turns.Go b f = f
+end_said turns.Level b f = f
+end_said turns.Unclaimed b f = f
 end_said _ b f = f
 
 work_said : (turn : Turn) (b : Board) (actor : ℕ) (w : AWork) → IsHeaderSaid turn b (said.Work actor w) → ⊥
-work_said turns.Go b actor w f = f
+work_said turns.Level b actor w f = f
+work_said turns.Unclaimed b actor w f = f
 work_said _ b actor w f = f
 
 -- the header has no end
@@ -73,10 +75,15 @@ after_pages (Header turn) two store h = tt
 after_pages Work two store h = h
 after_pages Ended two store h = h
 
-after_range : (stage : Stage) (span : Span) → IsInHeader stage → IsInHeader (stage_after stage (said.Unclaimed span))
-after_range (Header turn) span h = tt
-after_range Work span h = h
-after_range Ended span h = h
+after_level : (stage : Stage) (span : Span) → IsInHeader stage → IsInHeader (stage_after stage (said.Level span))
+after_level (Header turn) span h = tt
+after_level Work span h = h
+after_level Ended span h = h
+
+after_unclaimed : (stage : Stage) (span : Span) → IsInHeader stage → IsInHeader (stage_after stage (said.Unclaimed span))
+after_unclaimed (Header turn) span h = tt
+after_unclaimed Work span h = h
+after_unclaimed Ended span h = h
 
 after_nothing : (stage : Stage) → IsInHeader stage → IsInHeader (stage_after stage said.Nothing)
 after_nothing (Header turn) h = tt
@@ -96,7 +103,8 @@ pub header_line : (a b : Unread) (it : Said) → IsInHeader a.parser.stage → S
 header_line a b said.Nothing h s = record { goes = s.next.goes []; rises = s.next.rises; stage = still _ _ s.next.stage (after_nothing a.parser.stage h) }
 header_line a b (said.Number n) h s = record { goes = s.next.goes []; rises = s.next.rises; stage = still _ _ s.next.stage (after_number a.parser.stage n h) }
 header_line a b (said.Pages two store) h s = record { goes = s.next.goes []; rises = s.next.rises; stage = still _ _ s.next.stage (after_pages a.parser.stage two store h) }
-header_line a b (said.Unclaimed span) h s = record { goes = s.next.goes []; rises = s.next.rises; stage = still _ _ s.next.stage (after_range a.parser.stage span h) }
+header_line a b (said.Level span) h s = record { goes = s.next.goes []; rises = s.next.rises; stage = still _ _ s.next.stage (after_level a.parser.stage span h) }
+header_line a b (said.Unclaimed span) h s = record { goes = s.next.goes []; rises = s.next.rises; stage = still _ _ s.next.stage (after_unclaimed a.parser.stage span h) }
 header_line a b said.Go h s = record { goes = s.next.goes []; rises = s.next.rises; stage = s.next.stage ∙ after_go a.parser.stage h }
 header_line a b said.End h s = absurd (no_end a.parser.stage a.parser.board h s.fits)
 header_line a b (said.Work actor w) h s = absurd (no_work a.parser.stage a.parser.board actor w h s.fits)
@@ -150,6 +158,7 @@ header_goes_on said.Go stage n s = absurd (n refl)
 header_goes_on said.Nothing stage n s = s
 header_goes_on (said.Number k) stage n s = s
 header_goes_on (said.Pages two store) stage n s = s
+header_goes_on (said.Level span) stage n s = s
 header_goes_on (said.Unclaimed span) stage n s = s
 header_goes_on said.End stage n s = s
 header_goes_on (said.Work actor w) stage n s = s

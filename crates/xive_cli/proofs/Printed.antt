@@ -2,29 +2,18 @@
 use Rattle.std.proofs.Common.{ℕ, zero, suc, ◌≡◌, ◌<◌, ◌≤◌, ◌+◌, ◌-◌, List, [], ◌++◌, refl, sym, ◌∙◌, ap, subst, append-nil, append_assoc, add-one, arith, OnOk, OnErr, Result, Ok, Err}
 use Rattle.xv_io.specs.Faults.{HasRisen, AppendsPart}
 use Rattle.xv_io.specs.Writer.{Puts}
-use Rattle.std.specs.Prelude.{false, not, take, nat_le, ◌&&◌, if◌then◌else◌}
-use Rattle.std.specs.List.{list_any}
 use Rattle.xv_model.specs.declared.board.Board.{Board}
-use Rattle.xv_model.specs.declared.board.Span.{Span}
-use Rattle.xv_model.specs.declared.board.Spans.{Spans}
-use Rattle.xv_model.specs.declared.outcomes.Phase.TheVariants.{Saved}
-use Rattle.xv_model.specs.board.Boards.{is_in, IsPlain}
 use Rattle.xv_model.specs.declared.entries.Entry.{Entry}
 use Rattle.xv_model.specs.account.Start.{Start, start}
-use Rattle.account.specs.Account.{texts_below, processor_line_of}
-use Rattle.account.specs.text.Report.{processor_line}
+use Rattle.account.specs.Account.{texts_below, processor_line_of, ring_line_of}
+use Rattle.account.specs.text.Report.{ring_line}
+use Rattle.machine.specs.declared.views.ProcessorView.{ProcessorView}
+use Rattle.machine.specs.declared.views.RingView.{RingView}
+use Rattle.machine.specs.Views.{processor_view, free_ring}
 use Rattle.machine.specs.Machine.{Held, StandsFor}
 use Rattle.xive_cli.specs.Output.{Told, Tells, Fails}
-use Rattle.xive_cli.specs.Report.{TellsOf, FailsOf}
-use Rattle.xive_cli.proofs.Telling.{tells_nothing, tells_both, fails_after, fails_more}
-
--- a text was printed behind what was gathered, and what is gathered then was settled
-pub tells_printed : (a b : Told) (mid text : List ℕ) → mid ≡ a.gathered ++ text → Puts mid a.held b.gathered b.held [] → Tells a text b
-tells_printed a b mid text is p = record { sent = p.sent; appended = p.appended; kept = p.kept ∙ append-nil mid ∙ is }
-
--- the sink failed then
-pub fails_printed : (a b : Told) (mid text : List ℕ) → mid ≡ a.gathered ++ text → AppendsPart a.held b.held mid → HasRisen a.faults b.faults → b.gathered ≡ [] → Fails a text b
-fails_printed a b mid text is p f e = record { failed = f; part = subst (AppendsPart a.held b.held) is p; lost = e }
+use Rattle.xive_cli.specs.Report.{TellsOf, FailsOf, connected_line}
+use Rattle.xive_cli.proofs.Telling.{tells_nothing, tells_both, tells_printed, fails_after, fails_more, fails_printed}
 
 -- the texts of numbers begin with those of the numbers below a smaller one
 texts_begin : (f : ℕ → List ℕ) (n k m : ℕ) → m ≡ n + k → (rest : List ℕ) × (texts_below f m ≡ texts_below f n ++ rest)
@@ -59,13 +48,13 @@ one_failed m line i n a b c mid text low count before is printed part failed los
     let more = texts_begin f (suc i) (n - suc i) n (omega (arith, low)) in
     subst (λ t. Fails a t c) (sym more.1) (fails_more a c (texts_below f i ++ f i) more.0 (fails_after a b c (texts_below f i) (f i) count (before h st) one))
 
--- whether a number is in no ranges
-in_none : (spans : Spans) (n : ℕ) → spans.count ≡ 0 → is_in spans n ≡ false
-in_none spans n e = ap (λ k. list_any (λ (span : Span). nat_le span.first n && nat_le n span.last) (take k spans.spans)) e
+-- what a machine of a board shows of a processor is its line
+pub processor_printed : (b : Board) (h : List Entry) (v : ℕ) (p : ProcessorView) → p ≡ processor_view (start b) h v → connected_line v p ≡ processor_line_of (start b) v
+processor_printed b h v p is = ap (connected_line v) is
 
--- each processor of a board without unconnected ones has its line
-pub saved_line : (b : Board) (v : ℕ) → IsPlain b → processor_line v Saved 0 0 0 ≡ processor_line_of (start b) v
-saved_line b v plain = ap (λ unconnected. if not unconnected then processor_line v Saved 0 0 0 else []) (sym (in_none b.unconnected v plain.unconnected))
+-- what a machine shows of a ring is its line
+pub ring_printed : (t : ℕ) (r : RingView) → r ≡ free_ring → ring_line t r.nsr r.cppr r.ipb r.pipr r.cam ≡ ring_line_of t
+ring_printed t r is = ap (λ (r : RingView). ring_line t r.nsr r.cppr r.ipb r.pipr r.cam) is
 
 -- a text of a machine, and then another
 pub tells_parts : (m : Held) (x y : Start → List Entry → List ℕ) (a b c : Told) → TellsOf m x a b → TellsOf m y b c → TellsOf m (λ z h. x z h ++ y z h) a c

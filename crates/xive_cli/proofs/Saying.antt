@@ -10,7 +10,7 @@ use Rattle.board_script.specs.declared.lines.Said.TheVariants as said
 use Rattle.board_script.specs.declared.stage.Stage.{Stage}
 use Rattle.board_script.specs.declared.stage.Stage.TheVariants.{Header, Work, Ended}
 use Rattle.board_script.specs.Lines.{Reading, said_of, IsSaidAt}
-use Rattle.board_script.specs.Stage.{stage_after, board_after}
+use Rattle.board_script.specs.Stage.{stage_after, board_after, IsOpen}
 use Rattle.board_script.specs.Parser.{Parsing, read_of, read_by, answer_by, parsing_after, parsing_by, parsing_from, finished, finished_by}
 use Rattle.board_script.specs.Script.{Accepted, Refused as Rejected, TooLong as Exceeds, so_far}
 use Rattle.board_script.proofs.Reading.{IsNotEnd}
@@ -18,7 +18,7 @@ use Rattle.xive_cli.specs.Input.{Unread}
 use Rattle.xive_cli.specs.declared.stop.Stop.{Stop}
 use Rattle.xive_cli.specs.declared.stop.Stop.TheVariants.{ReadFault, WriteFault, Refused, TooLong, NoMemory}
 use Rattle.xive_cli.specs.Output.{Told, Tells}
-use Rattle.xive_cli.specs.Reading.{IsOpen, IsScript, Says, GoesBy, GoesTo, Waits, CannotGoOn, StopsReading}
+use Rattle.xive_cli.specs.Reading.{IsScript, Says, GoesBy, GoesTo, Waits, CannotGoOn, StopsReading}
 use Rattle.xive_cli.proofs.Telling.{risen_from, tells_both, fails_after}
 use Rattle.xive_cli.proofs.Going.{goes_by_line, goes_further, ends_by_line, ends_by_input, script_behind}
 
@@ -57,6 +57,7 @@ says_line a b said.End g f = record { fits = f; next = ends_by_line a b g.gives 
 says_line a b said.Nothing g f = record { fits = f; next = goes_by a b said.Nothing g tt }
 says_line a b (said.Number n) g f = record { fits = f; next = goes_by a b (said.Number n) g tt }
 says_line a b (said.Pages two store) g f = record { fits = f; next = goes_by a b (said.Pages two store) g tt }
+says_line a b (said.Level span) g f = record { fits = f; next = goes_by a b (said.Level span) g tt }
 says_line a b (said.Unclaimed span) g f = record { fits = f; next = goes_by a b (said.Unclaimed span) g tt }
 says_line a b said.Go g f = record { fits = f; next = goes_by a b said.Go g tt }
 says_line a b (said.Work actor w) g f = record { fits = f; next = goes_by a b (said.Work actor w) g tt }
@@ -104,6 +105,7 @@ says_from a u b said.End goes p given s = record {
 says_from a u b said.Nothing goes p given s = record { fits = fits_from a u said.Nothing p s.fits; next = goes_by_from a u b said.Nothing goes p given s.next }
 says_from a u b (said.Number n) goes p given s = record { fits = fits_from a u (said.Number n) p s.fits; next = goes_by_from a u b (said.Number n) goes p given s.next }
 says_from a u b (said.Pages two store) goes p given s = record { fits = fits_from a u (said.Pages two store) p s.fits; next = goes_by_from a u b (said.Pages two store) goes p given s.next }
+says_from a u b (said.Level span) goes p given s = record { fits = fits_from a u (said.Level span) p s.fits; next = goes_by_from a u b (said.Level span) goes p given s.next }
 says_from a u b (said.Unclaimed span) goes p given s = record { fits = fits_from a u (said.Unclaimed span) p s.fits; next = goes_by_from a u b (said.Unclaimed span) goes p given s.next }
 says_from a u b said.Go goes p given s = record { fits = fits_from a u said.Go p s.fits; next = goes_by_from a u b said.Go goes p given s.next }
 says_from a u b (said.Work actor w) goes p given s = record { fits = fits_from a u (said.Work actor w) p s.fits; next = goes_by_from a u b (said.Work actor w) goes p given s.next }

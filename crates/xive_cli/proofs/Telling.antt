@@ -1,5 +1,5 @@
 -- Texts that are told in turn.
-use Rattle.std.proofs.Common.{ℕ, ◌≡◌, ◌≤◌, List, [], ◌++◌, sym, subst, append-nil, append_assoc, arith, inl, inr, OnErr, Result, Ok, Err}
+use Rattle.std.proofs.Common.{ℕ, ◌≡◌, ◌≤◌, List, [], ◌++◌, sym, ◌∙◌, subst, append-nil, append_assoc, arith, inl, inr, OnErr, Result, Ok, Err}
 use Rattle.xv_io.specs.Faults.{HasRisen, AppendsPart}
 use Rattle.std.specs.Io.KnownBytes.{Appends}
 use Rattle.xv_io.specs.Writer.{Puts}
@@ -56,6 +56,10 @@ tells_flushed a b h e = subst (λ v. Puts a.gathered a.held v b.held []) (sym e)
 -- not all of it was written
 pub fails_flushed : (a b : Told) → AppendsPart a.held b.held a.gathered → HasRisen a.faults b.faults → b.gathered ≡ [] → Fails a [] b
 fails_flushed a b p f e = record { failed = f; part = subst (AppendsPart a.held b.held) (sym (append-nil a.gathered)) p; lost = e }
+
+-- a text was printed behind what was gathered, and what is gathered then was settled
+pub tells_printed : (a b : Told) (mid text : List ℕ) → mid ≡ a.gathered ++ text → Puts mid a.held b.gathered b.held [] → Tells a text b
+tells_printed a b mid text is p = record { sent = p.sent; appended = p.appended; kept = p.kept ∙ append-nil mid ∙ is }
 
 -- the sink failed at what was printed last
 pub fails_printed : (a b : Told) (items text : List ℕ) → items ≡ a.gathered ++ text → AppendsPart a.held b.held items → HasRisen a.faults b.faults → b.gathered ≡ [] → Fails a text b

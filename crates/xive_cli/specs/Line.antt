@@ -1,10 +1,9 @@
 -- Entries that are made and told.
-use Rattle.std.specs.Prelude.{ℕ, ◌≡◌, ◌+◌, ◌*◌, List, [], ◌∷◌, ◌++◌, None}
+use Rattle.std.specs.Prelude.{ℕ, ◌≡◌, List, [], ◌∷◌, ◌++◌, None}
 use Rattle.xv_model.specs.declared.operations.Op.{Op}
 use Rattle.xv_model.specs.declared.outcomes.Outcome.{Outcome}
 use Rattle.xv_model.specs.declared.entries.Entry.{Entry}
 use Rattle.xv_model.specs.account.Start.{Start}
-use Rattle.xv_model.specs.account.Burden.{weight}
 use Rattle.xv_model.specs.account.Index.{next_index}
 use Rattle.xv_model.specs.account.Legal.{IsLegal, legal}
 use Rattle.xv_model.specs.account.Scripts.{Line, Begins}
@@ -17,10 +16,6 @@ use Rattle.xive_cli.specs.Output.{Told, Tells, Fails}
 -- the machine represents a legal account
 abbrev pub IsLegalMachine : Held → Type 0
 IsLegalMachine m = (z : Start) × (h : List Entry) × StandsFor m z h × IsLegal z h
-
--- what a machine has to do yet with its notices and messages, as the burden of an account that it represents
-abbrev pub burden_of : Held → ℕ
-burden_of m = 4 * m.notices + weight m.tables.messages
 
 abbrev pub entry_of : ℕ → Op → Outcome → Entry
 entry_of actor o outcome = record { actor = actor; op = o; outcome = outcome }

@@ -52,11 +52,6 @@ pub record Says (a : Unread) (it : Said) (b : Unread) : Type 0 where
   pub fits : IsSaidAt a.parser.stage a.parser.board it
   pub next : EndsOr a it b
 
--- the script hasn't ended
-abbrev pub IsOpen : Stage → Type 0
-IsOpen Ended = ⊥
-IsOpen stage = Unit {0}
-
 -- the header isn't whole
 abbrev pub IsInHeader : Stage → Type 0
 IsInHeader (Header turn) = Unit {0}

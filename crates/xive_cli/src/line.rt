@@ -5,7 +5,8 @@ ghost use Rattle.xv_model.specs.board.Validity.{valid};
 ghost use Rattle.board_script.specs.Lines.{IsWork};
 ghost use Rattle.board_script.specs.Work.{load};
 ghost use Rattle.xive_cli.specs.Output.{told};
-ghost use Rattle.xive_cli.specs.Line.{IsLegalMachine, burden_of, entry_of, TellsEntry, FailsEntry, RunsLine, FailsLine};
+ghost use Rattle.machine.specs.Machine.{burden_of};
+ghost use Rattle.xive_cli.specs.Line.{IsLegalMachine, entry_of, TellsEntry, FailsEntry, RunsLine, FailsLine};
 
 use crate::output::Output;
 use account::entry::add_entry;
@@ -16,6 +17,7 @@ use xv_model::operations::Op;
 use xv_model::outcomes::Outcome;
 
 /// Makes one entry, and tells its line.
+#[inline(never)]
 fn make_entry<K: Sink>(
     machine: &mut Machine,
     output: &mut Output<'_, K>,

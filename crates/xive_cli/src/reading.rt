@@ -3,18 +3,14 @@
 ghost use Rattle.std.specs.Prelude.{◌≡◌, ◌≤◌, [], IfOk, IfErr, OnOk, IfSome, IsNone};
 ghost use Rattle.xive_cli.specs.Input.{unread};
 ghost use Rattle.xive_cli.specs.Output.{told, Tells};
-ghost use Rattle.xive_cli.specs.Reading.{IsOpen, Says, Waits, CannotGoOn, Fills, Misses, StopsReading};
+ghost use Rattle.board_script.specs.Stage.{IsOpen};
+ghost use Rattle.xive_cli.specs.Reading.{Says, Waits, CannotGoOn, Fills, Misses, StopsReading};
 
 use crate::input::Input;
 use crate::output::Output;
 use crate::stop::Stop;
 use board_script::lines::Said;
-use xv_base::limits::LONGEST_LINE;
 use xv_io::{Next, Sink, Source};
-
-/// What stands in for a line that is too long, of which the reader keeps nothing. The parser refuses each of
-/// them alike.
-const LONG_LINE: [u8; LONGEST_LINE + 1] = [b'#'; LONGEST_LINE + 1];
 
 /// Finds in what is read ahead what the next line says; none where more has to be read first.
 fn next_said<S: Source>(input: &mut Input<'_, S>) -> Result<Option<Said>, Stop>
@@ -30,10 +26,7 @@ fn next_said<S: Source>(input: &mut Input<'_, S>) -> Result<Option<Said>, Stop>
 {
     match input.reader.next() {
         Next::Line => Ok(Some(input.parser.read(input.reader.line())?)),
-        Next::Long => match input.parser.read(&LONG_LINE) {
-            Ok(_) => unreachable!(),
-            Err(fault) => Err(Stop::Refused(fault)),
-        },
+        Next::Long => Err(Stop::Refused(input.parser.refuse_long())),
         Next::TooMany => Err(Stop::TooLong),
         Next::End => {
             input.parser.finish()?;

@@ -1,18 +1,20 @@
 //! The report at the end of an account.
 
-ghost use Rattle.std.specs.Prelude.{◌≡◌, ◌≤◌, OnOk, OnErr};
+ghost use Rattle.std.specs.Prelude.{◌≡◌, ◌+◌, ◌++◌, ◌≤◌, OnOk, OnErr};
+ghost use Rattle.arrayvec.specs.ArrayVec.{array_vec_len};
 ghost use Rattle.account.specs.Account.{report_text};
 ghost use Rattle.xive_cli.specs.Output.{told};
-ghost use Rattle.xive_cli.specs.Report.{TellsOf, FailsOf, sources_text, queues_text, processors_text, rings_text, first_text, last_text};
+ghost use Rattle.xive_cli.specs.Report.{TellsOf, FailsOf, sources_text, queues_text, processors_text, rings_text, connected_line, first_text, last_text};
 
 use crate::output::Output;
+use account::LONGEST_REPORT_LINE;
 use account::report::{
     add_done, add_end, add_flight, add_notices, add_processor, add_queue, add_ring, add_source,
 };
-use machine::Machine;
+use arrayvec::ArrayVec;
+use machine::{Machine, ProcessorView};
 use xv_base::limits::ENDS_PER_PROCESSOR;
-use xv_io::{Failed, Sink};
-use xv_model::outcomes::Phase;
+use xv_io::{Failed, ROOM, Sink};
 
 /// Puts the lines of the sources.
 fn put_sources<K: Sink>(machine: &Machine, output: &mut Output<'_, K>) -> Result<(), Failed>
@@ -63,7 +65,25 @@ fn put_queues<K: Sink>(machine: &Machine, output: &mut Output<'_, K>) -> Result<
     Ok(())
 }
 
-/// Puts the lines of the processors, which are all connected and saved.
+/// Appends the line of a processor, where it is connected.
+fn add_connected(text: &mut ArrayVec<u8, ROOM>, v: u32, processor: &ProcessorView)
+    requires { array_vec_len text.old + LONGEST_REPORT_LINE ≤ ROOM }
+    ensures items { text.new.items ≡ text.old.items ++ connected_line v processor.now }
+    ensures len { array_vec_len text.new ≤ array_vec_len text.old + LONGEST_REPORT_LINE }
+{
+    if processor.connected {
+        add_processor(
+            text,
+            v,
+            processor.phase,
+            processor.cppr,
+            processor.ipb,
+            processor.backlog,
+        );
+    }
+}
+
+/// Puts the lines of the processors.
 fn put_processors<K: Sink>(machine: &Machine, output: &mut Output<'_, K>) -> Result<(), Failed>
     ensures sink { output.new.sink.ghost_name ≡ output.old.sink.ghost_name }
     ensures ok { OnOk result
@@ -73,13 +93,13 @@ fn put_processors<K: Sink>(machine: &Machine, output: &mut Output<'_, K>) -> Res
     ensures count { K.faults output.old.sink.now ≤ K.faults output.new.sink.now }
 {
     for v in 0..machine.board().limits.processors {
-        add_processor(&mut output.writer.gathered, v, Phase::Saved, 0, 0, 0);
+        add_connected(&mut output.writer.gathered, v, &machine.processor(v));
         output.writer.settle(output.sink)?;
     }
     Ok(())
 }
 
-/// Puts the lines of the rings, which are all free.
+/// Puts the lines of the rings.
 fn put_rings<K: Sink>(machine: &Machine, output: &mut Output<'_, K>) -> Result<(), Failed>
     ensures sink { output.new.sink.ghost_name ≡ output.old.sink.ghost_name }
     ensures ok { OnOk result
@@ -89,7 +109,16 @@ fn put_rings<K: Sink>(machine: &Machine, output: &mut Output<'_, K>) -> Result<(
     ensures count { K.faults output.old.sink.now ≤ K.faults output.new.sink.now }
 {
     for t in 0..machine.board().limits.threads {
-        add_ring(&mut output.writer.gathered, t, 0, 0, 0, 0xff, 0);
+        let ring = machine.ring(t);
+        add_ring(
+            &mut output.writer.gathered,
+            t,
+            ring.nsr,
+            ring.cppr,
+            ring.ipb,
+            ring.pipr,
+            ring.cam,
+        );
         output.writer.settle(output.sink)?;
     }
     Ok(())

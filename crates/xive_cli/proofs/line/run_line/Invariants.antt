@@ -2,9 +2,9 @@ use Rattle.std.proofs.Common.{◌≡◌, ◌+◌, ◌≤◌, List, None}
 use Rattle.xv_model.specs.declared.entries.Entry.{Entry}
 use Rattle.xv_model.specs.account.Start.{Start}
 use Rattle.xv_model.specs.account.Legal.{IsLegal}
-use Rattle.machine.specs.Machine.{StandsFor}
+use Rattle.machine.specs.Machine.{StandsFor, burden_of}
 use Rattle.board_script.specs.Work.{load, IsAt, IsLast, HasValidSteps}
-use Rattle.xive_cli.specs.Line.{RunsPart, burden_of}
+use Rattle.xive_cli.specs.Line.{RunsPart}
 use Rattle.xive_cli.specs.Output.{told}
 use Rattle.xive_cli.proofs.line.run_line.Given as goal
 

@@ -1,9 +1,7 @@
-use Rattle.std.proofs.Common.{ℕ, refl, sym, ◌∙◌, ap, arith}
-use Rattle.std.proofs.Math.ListN.{length-replicate}
+use Rattle.std.proofs.Common.{refl, sym, ◌∙◌, ap}
 use Rattle.board_script.specs.Parser.{read_of, parsing_after}
 use Rattle.xive_cli.specs.declared.stop.Stop.TheVariants.{Refused}
 use Rattle.xive_cli.proofs.Going.{refused_by_line, refused_by_length, refused_by_end, exceeds}
-use Rattle.xive_cli.proofs.LongLines.{read_long}
 use Rattle.xive_cli.proofs.Saying.{says_line, says_end, same_place, waits}
 use Rattle.xive_cli.proofs.Stopping.{at_stop}
 use Rattle.xive_cli.proofs.reading.next_said.Goals as goal
@@ -32,11 +30,9 @@ returns-in_ok-read-in-Line-clause-says g c =
       rises = c.next.ensures.rises c.in-Line.is;
     }) (c.in_ok-read-in-Line.ensures {u = tt}).fits
 
-pub returns-in-Err-clause-stop : goal.returns-in-Err-clause-stop
-returns-in-Err-clause-stop g c =
-    let p = c.args.input.now.parser in
-    refused_by_length _ _ c.in-Err.fault (c.next.ensures.long c.in-Long.is) c.next.ensures.ended refl
-    (λ line long. read_long p line _ c.requires long (omega (arith, length-replicate {A = ℕ} 257 35)) ∙ sym c.read-in-Long.ensures.value ∙ c.in-Err.is)
+pub returns-in-Long-clause-stop : goal.returns-in-Long-clause-stop
+returns-in-Long-clause-stop g c =
+    refused_by_length _ _ c.refuse_long.result (c.next.ensures.long c.in-Long.is) c.next.ensures.ended refl (λ line long. c.refuse_long.ensures.value line long)
 
 pub returns-in-TooMany-clause-stop : goal.returns-in-TooMany-clause-stop
 returns-in-TooMany-clause-stop g c = exceeds _ _ (c.next.ensures.too_many c.in-TooMany.is) c.next.ensures.ended refl

@@ -2,7 +2,8 @@ use Rattle.std.proofs.Common.{[], sym, ◌∙◌, ap, subst, arith, IfSome}
 use Rattle.board_script.specs.Parser.{Parsing}
 use Rattle.xive_cli.specs.Input.{unread}
 use Rattle.xive_cli.specs.Output.{told}
-use Rattle.xive_cli.specs.Reading.{Says, Fills, IsOpen, StopsReading}
+use Rattle.board_script.specs.Stage.{IsOpen}
+use Rattle.xive_cli.specs.Reading.{Says, Fills, StopsReading}
 use Rattle.xive_cli.proofs.Going.{goes_further}
 use Rattle.xive_cli.proofs.Saying.{says_from, stops_from, stops_again, none_is}
 use Rattle.xive_cli.proofs.Stopping.{at_stop}

@@ -2,7 +2,8 @@ use Rattle.std.proofs.Common.{◌≡◌, ◌≤◌, ◌-◌, ◌+◌, [], length
 use Rattle.xv_base.specs.Limits.{longest_line}
 use Rattle.xive_cli.specs.Input.{unread}
 use Rattle.xive_cli.specs.Output.{told, Tells}
-use Rattle.xive_cli.specs.Reading.{GoesTo, IsOpen}
+use Rattle.board_script.specs.Stage.{IsOpen}
+use Rattle.xive_cli.specs.Reading.{GoesTo}
 use Rattle.xive_cli.proofs.reading.read_line.Given as goal
 
 abbrev pub invariant-loop-said : goal.invariant-loop-said

@@ -5,9 +5,9 @@ use Rattle.board_script.specs.declared.lines.Said.TheVariants as said
 use Rattle.board_script.specs.Script.{WorkLine}
 use Rattle.board_script.specs.Stage.{stage_after, board_after}
 use Rattle.board_script.proofs.WorkLines.{few}
+use Rattle.machine.specs.Machine.{burden_of}
 use Rattle.xive_cli.specs.declared.stop.Stop.TheVariants.{WriteFault}
 use Rattle.xive_cli.specs.Input.{unread}
-use Rattle.xive_cli.specs.Line.{burden_of}
 use Rattle.xive_cli.specs.Output.{told, Tells, Fails}
 use Rattle.xive_cli.specs.Reading.{Says}
 use Rattle.xive_cli.proofs.Stopping.{at_stop}
