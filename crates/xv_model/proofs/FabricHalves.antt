@@ -18,13 +18,15 @@ use Rattle.xv_model.specs.account.Start.{Start}
 use Rattle.xv_model.specs.account.Kinds.{WordAccess, access_of, part_beside, is_quiet, is_fabric, run_of}
 use Rattle.xv_model.specs.source.PqTable.{trigger_row}
 use Rattle.xv_model.specs.source.Notices.{forwards, routes, outstanding}
-use Rattle.xv_model.specs.end.Flags.{is_valid}
+use Rattle.xv_model.specs.end.Flags.{is_valid, enqueues}
 use Rattle.xv_model.specs.source.Eas.{source_config_in, eas_by, eas}
 use Rattle.xv_model.specs.end.Descriptors.{configuration_in, config_at, config_by, end_config, since_config, until_config}
 use Rattle.xv_model.specs.end.EventStates.{first_state, ran_at, asks_state, load_in, load_at, load_by, esn, ese}
-use Rattle.xv_model.specs.end.Pages.{loaded, state_of, end_page_answer}
+use Rattle.xv_model.specs.end.Pages.{loaded, end_page_answer}
 use Rattle.xv_model.specs.end.Written.{wrote_in, payload_of, written, written_count}
-use Rattle.xv_model.specs.end.Reading.{taken_count}
+use Rattle.xv_model.specs.end.Memory.{place, zeroed_in, word_by, word_at, peek_outcome}
+use Rattle.xv_model.specs.end.Reading.{item_in, taken, taken_count, read_by, read_outcome}
+use Rattle.xv_model.specs.board.Validity.{ram_size, fits}
 use Rattle.xv_model.specs.route.Flight.{origin_of, made_by, messages_by, flight}
 use Rattle.xv_model.specs.route.Routing.{write_by, next_by, end_pass, routed_by, route_outcome}
 use Rattle.xv_model.specs.route.Quiet.{messages_of, quiet_by, quiet_answer}
@@ -68,6 +70,20 @@ no_load b _ u other = refl
 no_load_by : (b : Board) (page e : ℕ) (x : Entry) → is_fabric b x.op ≡ false → load_by page e x ≡ None
 no_load_by b page e x other = ap (load_at page e) (no_load b x.op x.outcome other)
 
+-- an operation that isn't the fabric's zeroes nothing
+no_zeroed : (b : Board) (o : Op) (u : Outcome) → is_fabric b o ≡ false → zeroed_in o u ≡ None
+no_zeroed b (op.Zero addr len) u other = cc
+no_zeroed b _ u other = refl
+
+-- an entry that isn't the fabric's changes no word
+no_word_by : (b : Board) (a : ℕ) (x : Entry) → is_fabric b x.op ≡ false → word_by a x ≡ None
+no_word_by b a x other = rw (no_run b x.op x.outcome other, no_zeroed b x.op x.outcome other) refl
+
+-- an operation that isn't the fabric's takes nothing from a queue
+no_item : (b : Board) (o : Op) (u : Outcome) (e : ℕ) → is_fabric b o ≡ false → item_in o u e ≡ []
+no_item b (op.Read r) u e other = cc
+no_item b _ u e other = refl
+
 -- an entry that isn't the fabric's leaves the EAS of s
 pub eas-skips : (z : Start) (s : ℕ) (x : Entry) (h : List Entry) → is_fabric z.board x.op ≡ false → eas z (x ∷ h) s ≡ eas z h s
 eas-skips z s x h other = rw (no_source_config z.board x.op x.outcome other) refl
@@ -100,9 +116,17 @@ written-skips z e x h other = rw (no_config_by z.board e x other, no_run z.board
 pub written_count-skips : (z : Start) (e : ℕ) (x : Entry) (h : List Entry) → is_fabric z.board x.op ≡ false → written_count z (x ∷ h) e ≡ written_count z h e
 written_count-skips z e x h other = λ i. length (written-skips z e x h other i) + until_config-skips z (z.written_count e) e x h other i
 
+-- an entry that isn't the fabric's leaves the word at an address
+pub word_at-skips : (z : Start) (a : ℕ) (x : Entry) (h : List Entry) → is_fabric z.board x.op ≡ false → word_at z (x ∷ h) a ≡ word_at z h a
+word_at-skips z a x h other = rw (no_word_by z.board a x other) refl
+
+-- an entry that isn't the fabric's leaves what was taken of e
+pub taken-skips : (z : Start) (e : ℕ) (x : Entry) (h : List Entry) → is_fabric z.board x.op ≡ false → taken (x ∷ h) e ≡ taken h e
+taken-skips z e x h other = rw (no_config_by z.board e x other, no_item z.board x.op x.outcome e other) (append-nil (taken h e))
+
 -- an entry that isn't the fabric's leaves how many entries of e were taken
 pub taken_count-skips : (z : Start) (e : ℕ) (x : Entry) (h : List Entry) → is_fabric z.board x.op ≡ false → taken_count z (x ∷ h) e ≡ taken_count z h e
-taken_count-skips z e x h other = until_config-skips z (z.taken_count e) e x h other
+taken_count-skips z e x h other = λ i. length (taken-skips z e x h other i) + until_config-skips z (z.taken_count e) e x h other i
 
 -- an entry that isn't the fabric's leaves the messages in flight
 pub flight-skips : (z : Start) (x : Entry) (h : List Entry) → is_fabric z.board x.op ≡ false → flight z (x ∷ h) ≡ flight z h
@@ -166,9 +190,30 @@ written-half z e = half (λ x. is_fabric z.board x.op) (λ h. written z h e) (λ
 pub written_count-half : (z : Start) (e : ℕ) (h : List Entry) → written_count z (fabric_of z.board h) e ≡ written_count z h e
 written_count-half z e h = λ i. length (written-half z e h i) + until_config-half z (z.written_count e) e h i
 
+-- what was taken of e is what the fabric's entries took
+pub taken-half : (z : Start) (e : ℕ) (h : List Entry) → taken (fabric_of z.board h) e ≡ taken h e
+taken-half z e = half (λ x. is_fabric z.board x.op) (λ h. taken h e) (λ x h so_far. λ i. option_map_or (λ c. []) (config_by e x) (so_far i ++ item_in x.op x.outcome e)) (taken-skips z e)
+
 -- how many entries of e were taken is how many the fabric's entries took
 pub taken_count-half : (z : Start) (e : ℕ) (h : List Entry) → taken_count z (fabric_of z.board h) e ≡ taken_count z h e
-taken_count-half z e h = until_config-half z (z.taken_count e) e h
+taken_count-half z e h = λ i. length (taken-half z e h i) + until_config-half z (z.taken_count e) e h i
+
+-- the word at an address is that of the fabric's entries
+pub word_at-half : (z : Start) (a : ℕ) (h : List Entry) → word_at z (fabric_of z.board h) a ≡ word_at z h a
+word_at-half z a = half (λ x. is_fabric z.board x.op) (λ h. word_at z h a) (λ x h. ap (option_map_or (λ w. w) (word_by a x))) (word_at-skips z a)
+
+-- what a read of e answers after the fabric's entries is what it answers after the account
+pub read_outcome-half : (z : Start) (e : ℕ) (h : List Entry) → read_outcome z (fabric_of z.board h) e ≡ read_outcome z h e
+read_outcome-half z e h =
+    let number : (end_config z (fabric_of z.board h) e).start + taken_count z (fabric_of z.board h) e ≡ (end_config z h e).start + taken_count z h e =
+    λ i. (end_config-half z e h i).start + taken_count-half z e h i in
+    λ i. if is_valid (end_config-half z e h i) && enqueues (end_config-half z e h i)
+    then read_by (end_config-half z e h i) (number i) (word_at-half z (place (end_config-half z e h i) (number i)) h i)
+    else out.NoQueue
+
+-- what looking at a word answers after the fabric's entries is what it answers after the account
+pub peek_outcome-half : (z : Start) (a : ℕ) (h : List Entry) → peek_outcome z (fabric_of z.board h) a ≡ peek_outcome z h a
+peek_outcome-half z a h = λ i. if fits (ram_size z.board) a 4 then out.Cell (word_at-half z a h i) else out.BadRange
 
 -- the message that a pass makes after the fabric's entries is the one that it makes after the account
 made_by-half : (z : Start) (h : List Entry) (m : Option ℕ) (r : Option EndRun) → made_by z (fabric_of z.board h) m r ≡ made_by z h m r
@@ -231,6 +276,8 @@ fabric_answer_half : (z : Start) (g h : List Entry) (o : Op) → not (is_quiet o
 fabric_answer_half z g h (op.Quiet s) is same none = cc
 fabric_answer_half z g h (op.Route s) is same none = route_half z g h s same (none s refl)
 fabric_answer_half z g h (op.EndEsb e page offset store) is same none = same_fabric z.board (λ f. end_page_answer z f e page offset store) g h (end_page_answer-half z e page offset store) same
+fabric_answer_half z g h (op.Read e) is same none = same_fabric z.board (λ f. read_outcome z f e) g h (read_outcome-half z e) same
+fabric_answer_half z g h (op.Peek addr) is same none = same_fabric z.board (λ f. peek_outcome z f addr) g h (peek_outcome-half z addr) same
 fabric_answer_half z g h (op.Hcall number args) is same none = ap out.Reply (same_fabric z.board (λ f. hcall_reply z f args) g h (hcall_reply-half z args) same)
 fabric_answer_half z g h _ is same none = refl
 

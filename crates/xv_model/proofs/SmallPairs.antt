@@ -13,7 +13,7 @@ use Rattle.xv_model.specs.declared.entries.Entry.{Entry}
 use Rattle.xv_model.specs.account.Start.{Start}
 use Rattle.xv_model.specs.account.Kinds.{WordAccess, access_of}
 use Rattle.xv_model.specs.source.Pages.{page_op, management_op, trigger_page_op, load_op, store_op}
-use Rattle.xv_model.specs.declared.pages.TheConstants.{ESB_OFFSETS, ESB_STORE_EOI, ESB_GET, ESB_SET_PQ, ESB_SET_STEP}
+use Rattle.xv_model.specs.declared.pages.TheConstants.{ESB_OFFSETS, ESB_STORE_EOI, ESB_GET, ESB_SET_PQ}
 use Rattle.xv_model.specs.source.PqTable.{pq_row}
 use Rattle.xv_model.specs.source.Pairs.{Touch, touch_of, touch_at, pq, asserted}
 use Rattle.xv_model.specs.board.Boards.{is_level}

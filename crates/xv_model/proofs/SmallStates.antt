@@ -11,7 +11,7 @@ use Rattle.xv_model.specs.declared.outcomes.Outcome.TheVariants as out
 use Rattle.xv_model.specs.declared.entries.Entry.{Entry}
 use Rattle.xv_model.specs.account.Start.{Start}
 use Rattle.xv_model.specs.account.Kinds.{run_of}
-use Rattle.xv_model.specs.account.Legal.{IsLegal, IsNext, legal}
+use Rattle.xv_model.specs.account.Legal.{IsLegal, legal}
 use Rattle.xv_model.specs.source.PqTable.{trigger_row}
 use Rattle.xv_model.specs.source.Pages.{load_op}
 use Rattle.xv_model.specs.end.Flags.{is_valid}

@@ -1,5 +1,5 @@
 -- The outcomes of a legal account are well-formed.
-use Rattle.std.proofs.Common.{ℕ, ◌≡◌, ◌==◌, ◌<◌, ◌&&◌, Bool, true, false, if◌then◌else◌, List, length, Option, Some, None, refl, sym, subst}
+use Rattle.std.proofs.Common.{ℕ, ◌≡◌, ◌==◌, ◌+◌, ◌<◌, ◌&&◌, Bool, true, false, if◌then◌else◌, List, length, Option, Some, None, refl, sym, subst}
 use Rattle.std.specs.Option.{option_map_or}
 use Rattle.xv_base.specs.Limits.{most_messages, most_forwards}
 use Rattle.xv_model.specs.declared.operations.Op.{Op}
@@ -16,7 +16,10 @@ use Rattle.xv_model.specs.route.Quiet.{messages_of}
 use Rattle.xv_model.specs.board.Boards.{is_level}
 use Rattle.xv_model.specs.account.Legal.{IsLegal, IsNext, answer_by, cell_after, answer_on}
 use Rattle.xv_model.specs.account.Outcomes.{IsWellFormed}
-use Rattle.xv_model.specs.end.Flags.{is_valid}
+use Rattle.xv_model.specs.board.Validity.{ram_size, fits}
+use Rattle.xv_model.specs.end.Flags.{is_valid, enqueues}
+use Rattle.xv_model.specs.end.Memory.{place, generation, word_at}
+use Rattle.xv_model.specs.end.Reading.{taken_count, top_bit}
 use Rattle.xv_model.specs.end.Descriptors.{end_config}
 use Rattle.xv_model.specs.end.Pages.{state_of}
 use Rattle.xv_model.proofs.SmallPairs.{SetsPair, sets_access, small_cell, pq-below}
@@ -41,6 +44,12 @@ fabric_well_formed z h (op.EndEsb e page offset store) w =
     well_formed_if store _ _ tt (well_formed_if (is_valid (end_config z h e)) _ _ (small, small_load offset (state_of z h e page) small) tt)
 fabric_well_formed z h (op.EndSet e c) w = tt
 fabric_well_formed z h (op.Hcall number args) w = refl
+fabric_well_formed z h (op.Read e) w =
+    let c = end_config z h e in
+    let j = c.start + taken_count z h e in
+    well_formed_if (is_valid c && enqueues c) _ _ (well_formed_if (top_bit (word_at z h (place c j)) == generation c j) _ _ tt tt) tt
+fabric_well_formed z h (op.Peek addr) w = well_formed_if (fits (ram_size z.board) addr 4) _ _ tt tt
+fabric_well_formed z h (op.Zero addr len) w = well_formed_if (fits (ram_size z.board) addr len) _ _ tt tt
 fabric_well_formed z h _ w = tt
 
 -- the answer of an operation is well-formed, by whether it is an access

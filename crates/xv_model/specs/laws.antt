@@ -1,2 +1,4 @@
 pub mod Triggers
 pub mod Entering
+pub mod Queues
+pub mod QueueExample

@@ -110,6 +110,8 @@ pub fn valid(board: &Board, op: &Op) -> bool
         Op::Route { s } => *s < board.limits.sources,
         Op::EndSet { e, config } => has_end(board, *e) && valid_config(board, config),
         Op::Hcall { number, args: _ } => *number == H_INT_SET_SOURCE_CONFIG,
+        Op::Read { e } => has_end(board, *e),
+        Op::Peek { .. } | Op::Zero { .. } => true,
         _ => false,
     }
 }

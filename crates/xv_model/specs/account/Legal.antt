@@ -13,7 +13,9 @@ use Rattle.xv_model.specs.source.PqTable.{Cell, pq_row}
 use Rattle.xv_model.specs.source.Pairs.{pq, asserted}
 use Rattle.xv_model.specs.source.Notices.{forwards}
 use Rattle.xv_model.specs.source.Pages.{untouched_answer}
+use Rattle.xv_model.specs.end.Memory.{peek_outcome, zero_outcome}
 use Rattle.xv_model.specs.end.Pages.{end_page_answer}
+use Rattle.xv_model.specs.end.Reading.{read_outcome}
 use Rattle.xv_model.specs.route.Routing.{route_outcome}
 use Rattle.xv_model.specs.route.Quiet.{quiet_answer}
 use Rattle.xv_model.specs.call.Hypercalls.{hcall_reply}
@@ -39,6 +41,9 @@ fabric_answer z h (op.Esb s page offset store) = untouched_answer store
 fabric_answer z h (op.EndEsb e page offset store) = end_page_answer z h e page offset store
 fabric_answer z h (op.EndSet e c) = out.Fine
 fabric_answer z h (op.Hcall number args) = out.Reply (hcall_reply z h args)
+fabric_answer z h (op.Read e) = read_outcome z h e
+fabric_answer z h (op.Peek addr) = peek_outcome z h addr
+fabric_answer z h (op.Zero addr len) = zero_outcome z.board addr len
 fabric_answer z h _ = out.BadAccess
 
 -- what an operation answers, by the part that it is on

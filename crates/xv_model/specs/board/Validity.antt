@@ -30,6 +30,10 @@ end_count b = ends_per_processor * b.limits.processors
 abbrev pub ram_size : Board → ℕ
 ram_size b = b.ram_mib * 2 ^ 20
 
+-- whether some bytes are whole words, and lie within so many bytes of memory
+abbrev pub fits : ℕ → ℕ → ℕ → Bool
+fits size addr len = (addr % 4 == 0) && ((len % 4 == 0) && nat_le (addr + len) size)
+
 -- whether a queue may have 2 to the power of this many bytes: 4 KiB, 64 KiB, 2 MiB or 16 MiB
 abbrev pub is_queue_shift : ℕ → Bool
 is_queue_shift shift = (shift == 12) || ((shift == 16) || ((shift == 21) || (shift == 24)))
@@ -66,4 +70,7 @@ valid b (op.EndEsb e page offset store) = nat_lt e (end_count b) && nat_lt page 
 valid b (op.Route s) = nat_lt s b.limits.sources
 valid b (op.EndSet e c) = nat_lt e (end_count b) && valid_config b c
 valid b (op.Hcall number args) = number == H_INT_SET_SOURCE_CONFIG
+valid b (op.Read e) = nat_lt e (end_count b)
+valid b (op.Peek addr) = true
+valid b (op.Zero addr len) = true
 valid b _ = false

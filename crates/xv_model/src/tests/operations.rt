@@ -79,6 +79,30 @@ fn valid_routes(rt: HostRuntime) {
 }
 
 #[test]
+fn valid_reads(rt: HostRuntime) {
+    let board = small_board();
+    assert!(rt; valid(&board, &Op::Read { e: 0 }));
+    assert!(rt; valid(&board, &Op::Read { e: 15 }));
+    assert!(rt; !valid(&board, &Op::Read { e: 16 }));
+    assert!(rt; !valid(&board, &Op::Read { e: u32::MAX }));
+}
+
+#[test]
+fn valid_addresses(rt: HostRuntime) {
+    // also those that are no word's, or lie beyond memory: the outcome says so
+    let board = small_board();
+    let zero = |addr: u64, len: u64| Op::Zero { addr, len };
+    assert!(rt; valid(&board, &Op::Peek { addr: 0x1000 }));
+    assert!(rt; valid(&board, &Op::Peek { addr: 2 }));
+    assert!(rt; valid(&board, &Op::Peek { addr: 0x400000 }));
+    assert!(rt; valid(&board, &Op::Peek { addr: u64::MAX }));
+    assert!(rt; valid(&board, &zero(0x1000, 0x1000)));
+    assert!(rt; valid(&board, &zero(0, 0)));
+    assert!(rt; valid(&board, &zero(2, 4)));
+    assert!(rt; valid(&board, &zero(u64::MAX, u64::MAX)));
+}
+
+#[test]
 fn valid_hypercalls(rt: HostRuntime) {
     let board = small_board();
     let args = [0, 1, 2, 3, 4];

@@ -1,0 +1,134 @@
+-- The passes that write into a queue in a legal account, and what any entry leaves of it.
+use Rattle.std.proofs.Common.{ℕ, ◌≡◌, ◌==◌, ◌+◌, Bool, true, false, not, if◌then◌else◌, List, [], ◌∷◌, Option, Some, None, refl, sym, ◌∙◌, ap, ◌⊎◌, inl, inr, eq-eqb, ne_eqb, length}
+use Rattle.std.proofs.lemmas.Bool.{cases_eq}
+use Rattle.std.specs.Option.{option_map_or, option_or}
+use Rattle.xv_base.specs.Limits.{most_messages}
+use Rattle.xv_model.specs.declared.board.Board.{Board}
+use Rattle.xv_model.specs.declared.operations.Op.{Op}
+use Rattle.xv_model.specs.declared.operations.Op.TheVariants as op
+use Rattle.xv_model.specs.declared.outcomes.Wrote.{Wrote}
+use Rattle.xv_model.specs.declared.outcomes.Then.{Then}
+use Rattle.xv_model.specs.declared.outcomes.EndRun.TheVariants as run
+use Rattle.xv_model.specs.declared.outcomes.Routed.TheVariants.{NoSource, Masked, Run}
+use Rattle.xv_model.specs.declared.outcomes.Outcome.{Outcome}
+use Rattle.xv_model.specs.declared.outcomes.Outcome.TheVariants as out
+use Rattle.xv_model.specs.declared.entries.Entry.{Entry}
+use Rattle.xv_model.specs.account.Start.{Start}
+use Rattle.xv_model.specs.account.Kinds.{run_of}
+use Rattle.xv_model.specs.account.Legal.{IsNext}
+use Rattle.xv_model.specs.board.Validity.{valid}
+use Rattle.xv_model.specs.source.Notices.{routes, outstanding}
+use Rattle.xv_model.specs.source.Eas.{eas}
+use Rattle.xv_model.specs.end.Flags.{is_valid, enqueues}
+use Rattle.xv_model.specs.end.Descriptors.{end_config}
+use Rattle.xv_model.specs.end.EventStates.{esn}
+use Rattle.xv_model.specs.end.Written.{wrote_in, payload_of, entered, written_count}
+use Rattle.xv_model.specs.end.Memory.{place, wrote_at, write_of, word_in, zeroed_in, zero_in, word_by, word_at}
+use Rattle.xv_model.specs.route.Flight.{flight}
+use Rattle.xv_model.specs.route.Routing.{next_by, route_outcome}
+use Rattle.xv_model.proofs.RouteLaws.{route_answer}
+use Rattle.xv_model.proofs.QueueWords.{word_of, Sets}
+
+-- the write of a pass that wrote for e is this one
+abbrev Writes : ℕ → ℕ → Wrote → Op → Outcome → Type 0
+Writes e end w o u = wrote_in (run_of o u) ≡ Some e → (end ≡ e) × (write_of (run_of o u) ≡ Some w)
+
+-- where a route wrote for e, by its six tests
+writes_by : (s e k end : ℕ) (a b valid_eas masked v q : Bool) (w : Wrote) (t : Then) →
+    Writes e end w (op.Route s) (if a then out.NoNotice else (if b then out.BusFull else out.Routed k (if not valid_eas then NoSource else (if masked then Masked else Run (if v then run.Ran end (if q then Some w else None) t else run.NoEnd end)))))
+writes_by s e k end true b valid_eas masked v q w t is = cc
+writes_by s e k end false true valid_eas masked v q w t is = cc
+writes_by s e k end false false false masked v q w t is = cc
+writes_by s e k end false false true true v q w t is = cc
+writes_by s e k end false false true false false q w t is = cc
+writes_by s e k end false false true false true false w t is = cc
+writes_by s e k end false false true false true true w t is = (cc, refl)
+
+-- the write of a route of s for an END
+abbrev write_for : Start → List Entry → ℕ → ℕ → Wrote
+write_for z h s end = let c = end_config z h end in wrote_at c (c.start + written_count z h end) (eas z h s).eisn
+
+-- where a route wrote for e, e is the END of the source's EAS
+route_writes : (z : Start) (h : List Entry) (s e : ℕ) → Writes e (eas z h s).end (write_for z h s (eas z h s).end) (op.Route s) (route_outcome z h s)
+route_writes z h s e =
+    let a = eas z h s in
+    let c = end_config z h a.end in
+    writes_by s e (routes z h s + 1) a.end (outstanding z h s == 0) (length (flight z h) == most_messages) a.valid a.masked (is_valid c) (enqueues c) (write_for z h s a.end) (next_by c (esn z h a.end))
+
+-- an operation that a board has, and that wrote into a queue, is a route
+wrote_op : (b : Board) (o : Op) (u : Outcome) (e : ℕ) → valid b o ≡ true → wrote_in (run_of o u) ≡ Some e → (s : ℕ) × (o ≡ op.Route s)
+wrote_op b (op.Route s) u e v is = (s, refl)
+wrote_op b (op.Take i) u e v is = cc
+wrote_op b _ u e v is = cc
+
+-- an entry is the pass of a source that wrote into the queue of e: its number there is one more than those that were written
+pub record IsPass (z : Start) (h : List Entry) (x : Entry) (e : ℕ) : Type 0 where
+  pub source : ℕ
+  pub op_is : x.op ≡ op.Route source
+  pub write : write_of (run_of x.op x.outcome) ≡ Some (write_for z h source e)
+
+-- an entry of a legal account that wrote into the queue of e is such a pass
+pub pass_of : (z : Start) (h : List Entry) (x : Entry) (e : ℕ) → IsNext z h x → wrote_in (run_of x.op x.outcome) ≡ Some e → IsPass z h x e
+pass_of z h x e n is =
+    let o = wrote_op z.board x.op x.outcome e n.valid_op is in
+    let answer = route_answer z h x o.0 n o.1 in
+    let as_route : wrote_in (run_of (op.Route o.0) (route_outcome z h o.0)) ≡ Some e =
+    sym (ap (λ v. wrote_in (run_of v x.outcome)) o.1 ∙ ap (λ u. wrote_in (run_of (op.Route o.0) u)) answer) ∙ is in
+    let w = route_writes z h o.0 e as_route in
+    record {
+      source = o.0;
+      op_is = o.1;
+      write = ap (λ v. write_of (run_of v x.outcome)) o.1 ∙ ap (λ u. write_of (run_of (op.Route o.0) u)) answer ∙ w.1 ∙ ap (λ end. Some (write_for z h o.0 end)) w.0;
+    }
+
+-- the word at an address after a write, by whether it is there
+word_if : (b : Bool) (word before : ℕ) → option_map_or (λ w. w) (option_or (if b then Some word else None) None) before ≡ (if b then word else before)
+word_if true word before = refl
+word_if false word before = refl
+
+-- the word that an operation and its outcome leave at an address
+abbrev word_after : Op → ℕ → Option Wrote → Outcome → ℕ → ℕ
+word_after o a w u before = option_map_or (λ word. word) (option_or (word_in a w) (zero_in a (zeroed_in o u))) before
+
+-- a pass that wrote into the queue of e sets the word of its number
+pub pass_sets : (z : Start) (h : List Entry) (x : Entry) (e j : ℕ) (p : IsPass z h x e) → (end_config z h e).start + written_count z h e ≡ j →
+    Sets (place (end_config z h e) j) (word_of (end_config z h e) j (eas z h p.source).eisn) (word_at z h) (word_at z (x ∷ h))
+pass_sets z h x e j p is a =
+    ap (λ w. word_after x.op a w x.outcome (word_at z h a)) p.write
+    ∙ ap (λ o. word_after o a (Some (write_for z h p.source e)) x.outcome (word_at z h a)) p.op_is
+    ∙ word_if (place (end_config z h e) ((end_config z h e).start + written_count z h e) == a) (word_of (end_config z h e) ((end_config z h e).start + written_count z h e) (eas z h p.source).eisn) (word_at z h a)
+    ∙ ap (λ n. if place (end_config z h e) n == a then word_of (end_config z h e) n (eas z h p.source).eisn else word_at z h a) is
+
+-- what was written for e, where it was
+payload_there : (e : ℕ) (ps : List ℕ) → (if e == e then ps else []) ≡ ps
+payload_there e ps = ap (λ b. if b then ps else []) (eq-eqb e e refl)
+
+-- a pass that wrote into the queue of e writes the payload of its source
+pub pass_enters : (z : Start) (h : List Entry) (x : Entry) (e : ℕ) (p : IsPass z h x e) → wrote_in (run_of x.op x.outcome) ≡ Some e → entered z h x e ≡ (eas z h p.source).eisn ∷ []
+pass_enters z h x e p is =
+    ap (λ m. option_map_or (λ end. if end == e then payload_of z h x.op else []) m []) is
+    ∙ payload_there e (payload_of z h x.op)
+    ∙ ap (payload_of z h) p.op_is
+
+-- a pass wrote into the queue of e, or it didn't
+pub wrote_or_not : (e : ℕ) (m : Option ℕ) → (m ≡ Some e) ⊎ (m ≡ Some e → ⊥)
+wrote_or_not e None = inr (λ is. cc)
+wrote_or_not e (Some end) = elim (cases_eq end e) [ inl same ↦ inl (ap Some same) | inr differs ↦ inr (λ is. let same : end ≡ e = cc in differs same) ]
+
+-- what is written for e, where another's queue was written at most
+enters_none_by : (e : ℕ) (m : Option ℕ) (ps : List ℕ) → (m ≡ Some e → ⊥) → option_map_or (λ end. if end == e then ps else []) m [] ≡ []
+enters_none_by e None ps differs = refl
+enters_none_by e (Some end) ps differs = ap (λ b. if b then ps else []) (ne_eqb end e (λ same. differs (ap Some same)))
+
+-- an entry that didn't write into the queue of e enters nothing there
+pub enters_none : (z : Start) (h : List Entry) (x : Entry) (e : ℕ) → (wrote_in (run_of x.op x.outcome) ≡ Some e → ⊥) → entered z h x e ≡ []
+enters_none z h x e differs = enters_none_by e (wrote_in (run_of x.op x.outcome)) (payload_of z h x.op) differs
+
+-- a word that isn't changed
+word_kept_by : (m : Option ℕ) (before : ℕ) → ((word : ℕ) → m ≡ Some word → ⊥) → option_map_or (λ w. w) m before ≡ before
+word_kept_by None before none = refl
+word_kept_by (Some word) before none = absurd (none word refl)
+
+-- an entry that doesn't change the word at an address leaves it
+pub word_kept : (z : Start) (h : List Entry) (x : Entry) (a : ℕ) → ((word : ℕ) → word_by a x ≡ Some word → ⊥) → word_at z (x ∷ h) a ≡ word_at z h a
+word_kept z h x a none = word_kept_by (word_by a x) (word_at z h a) none
