@@ -1,4 +1,4 @@
-use Rattle.std.proofs.Common.{◌≡◌, ◌&&◌, ◌∙◌}
+use Rattle.std.proofs.Common.{◌&&◌, ◌∙◌}
 use Rattle.xv_base.proofs.Eights.{all_of_eight}
 use Rattle.xv_io.specs.Reader.{is_inside}
 use Rattle.xv_io.proofs.reader.are_inside.Goals as goal
