@@ -1,0 +1,3 @@
+-- Lemmas.
+pub mod Standing
+pub mod Zeroing

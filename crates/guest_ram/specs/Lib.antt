@@ -1,0 +1,2 @@
+-- What memory is.
+pub mod Ram
