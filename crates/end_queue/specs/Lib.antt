@@ -1,0 +1,4 @@
+-- What is kept of ENDs, and what their queues and a guest's reader do.
+pub mod Ends
+pub mod Queues
+pub mod Reader
