@@ -1,5 +1,5 @@
 -- Entries that configure an END or a source, and what the tables represent then.
-use Rattle.std.proofs.Common.{ℕ, ◌≡◌, ◌≢◌, ◌<◌, ◌+◌, ◌*◌, ◌==◌, Bool, true, false, if◌then◌else◌, List, [], ◌∷◌, ◌++◌, length, Option, Some, None, refl, sym, ◌∙◌, ap, subst, arith, slice_set, slice_index_or}
+use Rattle.std.proofs.Common.{ℕ, ◌≡◌, ◌≢◌, ◌<◌, ◌+◌, ◌*◌, ◌==◌, Bool, true, false, if◌then◌else◌, List, [], ◌∷◌, ◌++◌, length, Option, Some, None, refl, sym, ◌∙◌, ap, subst, arith, slice_set, slice_get, slice_index_or}
 use Rattle.std.proofs.lemmas.Bool.{eq-eqb, ne_eqb}
 use Rattle.std.proofs.lemmas.List.{append-nil}
 use Rattle.std.specs.Option.{option_map_or}
@@ -18,9 +18,10 @@ use Rattle.xv_model.specs.source.Eas.{eas, eas_by, is_success}
 use Rattle.xv_model.specs.end.Descriptors.{end_config, until_config}
 use Rattle.xv_model.specs.end.EventStates.{esn, ese, first_state}
 use Rattle.xv_model.specs.end.Written.{written}
+use Rattle.xv_model.specs.end.Reading.{taken}
 use Rattle.xv_model.specs.route.Flight.{flight}
-use Rattle.router.specs.declared.ends.EndRecord.{EndRecord}
-use Rattle.router.specs.Ends.{configured}
+use Rattle.end_queue.specs.declared.ends.EndRecord.{EndRecord}
+use Rattle.end_queue.specs.Ends.{configured}
 use Rattle.router.specs.Tables.{Kept, StandsFor, end_of}
 use Rattle.router.proofs.Elements.{set_gives, read}
 use Rattle.router.proofs.Keeping.{nothing_entered}
@@ -43,7 +44,8 @@ told_by z h j m = record {
   config = option_map_or (λ c. c) m (end_config z h j);
   written = length (option_map_or (λ c. []) m (written z h j ++ []))
       + option_map_or (λ c. 0) m (until_config (z.written_count j) h j);
-  taken = option_map_or (λ c. 0) m (until_config (z.taken_count j) h j);
+  taken = length (option_map_or (λ c. []) m (taken h j ++ []))
+      + option_map_or (λ c. 0) m (until_config (z.taken_count j) h j);
   esn = option_map_or first_state m (esn z h j);
   ese = option_map_or first_state m (ese z h j);
 }
@@ -57,25 +59,26 @@ told z h e actor j c = by (e == j)
     by true = refl
     by false = nothing_entered z h j
 
--- e becomes r, which is what a configuration makes of an END
+-- the ENDs become those of which e is what a configuration makes of an END
 pub configured_stands : (t : Kept) (z : Start) (h : List Entry) (e actor : ℕ) (c : EndConfig)
-    (r : EndRecord) → StandsFor t z h → e < ends_per_processor * t.board.limits.processors → r ≡ configured c →
+    (ends : List EndRecord) → StandsFor t z h → e < ends_per_processor * t.board.limits.processors → ends ≡ slice_set t.ends e (configured c) →
     StandsFor (record {
       board = t.board;
       eases = t.eases;
       routes = t.routes;
-      ends = slice_set t.ends e r;
+      ends = ends;
       messages = t.messages;
     }) z (end_set actor e c ∷ h)
-configured_stands t z h e actor c r st l is = record {
+configured_stands t z h e actor c ends st l is = record {
   board = st.board;
   eases = st.eases;
   routes = λ q l. st.routes q l ∙ ap Some (omega arith);
-  ends = set_gives t.ends e (ends_per_processor * z.board.limits.processors) r
+  ends = λ j below. ap (λ (es : List EndRecord). slice_get es j) is
+      ∙ set_gives t.ends e (ends_per_processor * z.board.limits.processors) (configured c)
       (end_of z h) (end_of z (end_set actor e c ∷ h)) st.ends
       (subst (λ b. e < ends_per_processor * b.limits.processors) st.board l)
-      (is ∙ sym (told z h e actor e c ∙ at_same e (configured c) (end_of z h e)))
-      (λ j other. told z h e actor j c ∙ at_other e j (configured c) (end_of z h j) other);
+      (sym (told z h e actor e c ∙ at_same e (configured c) (end_of z h e)))
+      (λ j other. told z h e actor j c ∙ at_other e j (configured c) (end_of z h j) other) j below;
   messages = st.messages ∙ sym (append-nil (flight z h));
   connected = st.connected;
 }

@@ -1,9 +1,7 @@
 -- Entries that leave what the tables represent.
-use Rattle.std.proofs.Common.{ℕ, ◌≡◌, ◌+◌, Bool, false, List, [], ◌∷◌, ◌++◌, length, Some, refl, sym, ◌∙◌, ap, arith}
+use Rattle.std.proofs.Common.{ℕ, ◌≡◌, ◌+◌, false, List, [], ◌∷◌, ◌++◌, length, Some, sym, ◌∙◌, ap}
 use Rattle.std.proofs.lemmas.List.{append-nil}
 use Rattle.xv_model.specs.declared.operations.EndConfig.{EndConfig}
-use Rattle.xv_model.specs.declared.operations.Op.TheVariants as op
-use Rattle.xv_model.specs.declared.outcomes.Outcome.{Outcome}
 use Rattle.xv_model.specs.declared.entries.Entry.{Entry}
 use Rattle.xv_model.specs.account.Start.{Start}
 use Rattle.xv_model.specs.account.Kinds.{is_fabric}
@@ -12,16 +10,26 @@ use Rattle.xv_model.specs.source.Eas.{eas}
 use Rattle.xv_model.specs.end.Descriptors.{end_config, until_config}
 use Rattle.xv_model.specs.end.EventStates.{esn, ese}
 use Rattle.xv_model.specs.end.Written.{written}
+use Rattle.xv_model.specs.end.Reading.{taken}
 use Rattle.xv_model.specs.route.Flight.{flight}
 use Rattle.xv_model.proofs.HalvesLemmas.{routes-skips}
 use Rattle.xv_model.proofs.FabricHalves.{eas-skips, end_config-skips, written_count-skips, taken_count-skips, esn-skips, ese-skips, flight-skips}
-use Rattle.router.specs.declared.ends.EndRecord.{EndRecord}
+use Rattle.end_queue.specs.declared.ends.EndRecord.{EndRecord}
 use Rattle.router.specs.Tables.{Kept, StandsFor, end_of}
 
--- an END into whose queue nothing more is written
-pub nothing_entered : (z : Start) (h : List Entry) (e : ℕ) →
-    let r : EndRecord = record { config = end_config z h e; written = length (written z h e ++ []) + until_config (z.written_count e) h e; taken = until_config (z.taken_count e) h e; esn = esn z h e; ese = ese z h e } in r ≡ end_of z h e
-nothing_entered z h e = ap (λ ws. let r : EndRecord = record { config = end_config z h e; written = length ws + until_config (z.written_count e) h e; taken = until_config (z.taken_count e) h e; esn = esn z h e; ese = ese z h e } in r) (append-nil (written z h e))
+-- an END after these were written for it, and these were taken
+abbrev pub end_by : Start → List Entry → ℕ → List ℕ → List ℕ → EndRecord
+end_by z h e ws ts = record {
+  config = end_config z h e;
+  written = length ws + until_config (z.written_count e) h e;
+  taken = length ts + until_config (z.taken_count e) h e;
+  esn = esn z h e;
+  ese = ese z h e;
+}
+
+-- an END into whose queue nothing more is written, and from which nothing more is taken
+pub nothing_entered : (z : Start) (h : List Entry) (e : ℕ) → end_by z h e (written z h e ++ []) (taken h e ++ []) ≡ end_of z h e
+nothing_entered z h e = λ i. end_by z h e (append-nil (written z h e) i) (append-nil (taken h e) i)
 
 -- an entry that changes nothing of what the account gives leaves what the tables represent
 pub nothing_keeps : (t : Kept) (z : Start) (h : List Entry) (x : Entry) →

@@ -3,6 +3,10 @@ pub mod Configured
 pub mod Elements
 pub mod Keeping
 pub mod Loaded
+pub mod Memory
+pub mod Passed
+pub mod Queues
+pub mod Read
 pub mod Ranges
 pub mod Routed
 pub mod Starting

@@ -1,5 +1,5 @@
 -- Accesses to pages of ENDs, and what the tables represent then.
-use Rattle.std.proofs.Common.{ℕ, ◌≡◌, ◌≢◌, ◌<◌, ◌+◌, ◌*◌, ◌==◌, ◌&&◌, ◌⊎◌, inl, inr, not, Bool, true, false, if◌then◌else◌, List, [], ◌∷◌, ◌++◌, length, Option, Some, None, refl, sym, ◌∙◌, ap, subst, arith, slice_set, slice_index_or}
+use Rattle.std.proofs.Common.{ℕ, ◌≡◌, ◌<◌, ◌+◌, ◌*◌, ◌==◌, ◌&&◌, not, Bool, true, false, if◌then◌else◌, List, [], ◌∷◌, ◌++◌, length, Option, Some, None, refl, sym, ◌∙◌, ap, subst, arith, slice_set, slice_get}
 use Rattle.std.proofs.lemmas.Bool.Decides.{nat_tests}
 use Rattle.std.proofs.lemmas.List.{append-nil}
 use Rattle.std.specs.Option.{option_map_or}
@@ -16,15 +16,17 @@ use Rattle.xv_model.specs.end.Descriptors.{end_config, until_config}
 use Rattle.xv_model.specs.end.EventStates.{esn, ese}
 use Rattle.xv_model.specs.end.Pages.{load_row, loaded, end_page_answer}
 use Rattle.xv_model.specs.end.Written.{written}
+use Rattle.xv_model.specs.end.Reading.{taken}
 use Rattle.xv_model.specs.route.Flight.{flight}
-use Rattle.router.specs.declared.ends.EndRecord.{EndRecord}
-use Rattle.router.specs.Ends.{first_end, end_in, IsEnd, HasCountsAtMost}
+use Rattle.end_queue.specs.declared.ends.EndRecord.{EndRecord}
+use Rattle.end_queue.specs.Ends.{first_end, end_in, HasCountsAtMost}
+use Rattle.router.specs.Ends.{IsEnd}
 use Rattle.router.specs.Pages.{state_in, with_state, after_load}
 use Rattle.router.specs.Tables.{Kept, StandsFor, end_of}
 use Rattle.xv_model.proofs.SmallStates.{small_load}
 use Rattle.router.proofs.Configured.{at_same, at_other}
 use Rattle.router.proofs.Elements.{set_gives, read}
-use Rattle.router.proofs.Keeping.{nothing_entered, nothing_keeps}
+use Rattle.router.proofs.Keeping.{nothing_entered}
 
 -- an access to a page of e
 abbrev pub end_access : ℕ → ℕ → ℕ → ℕ → Bool → Outcome → Entry
@@ -36,17 +38,6 @@ kept_end t z h e st l =
     read t.ends e (ends_per_processor * z.board.limits.processors) (end_in t.ends e) first_end (end_of z h) st.ends
     (subst (λ (b : Board). e < ends_per_processor * b.limits.processors) st.board l) refl
 
--- a store is refused
-pub store_answer : (z : Start) (h : List Entry) (e page offset : ℕ) (store : Bool) → store ≡ true → out.BadOffset ≡ end_page_answer z h e page offset store
-store_answer z h e page offset store is = rw is refl
-
--- a load where an END with this configuration isn't valid
-pub no_end_answer : (t : Kept) (z : Start) (h : List Entry) (e page offset : ℕ) (store : Bool) → StandsFor t z h → e < ends_per_processor * t.board.limits.processors →
-    store ≡ false → is_valid (end_in t.ends e).config ≡ false → out.NoEnd ≡ end_page_answer z h e page offset store
-no_end_answer t z h e page offset store st l is off =
-    let w : is_valid (end_config z h e) ≡ false = subst (λ (r : EndRecord). is_valid r.config ≡ false) (kept_end t z h e st l) off in
-    rw (is, w) refl
-
 -- a load where it is
 pub load_answer : (t : Kept) (z : Start) (h : List Entry) (e page offset : ℕ) (store : Bool) (u : Outcome) → StandsFor t z h → e < ends_per_processor * t.board.limits.processors →
     store ≡ false → is_valid (end_in t.ends e).config ≡ true → u ≡ loaded offset (state_in (end_in t.ends e) page) → u ≡ end_page_answer z h e page offset store
@@ -55,20 +46,12 @@ load_answer t z h e page offset store u st l is on answer =
     let w : is_valid (end_config z h e) ≡ true = subst (λ (r : EndRecord). is_valid r.config ≡ true) same on in
     answer ∙ ap (λ (r : EndRecord). loaded offset (state_in r page)) same ∙ sym (rw (is, w) refl)
 
--- an access that is refused leaves what the tables represent
-pub refused_keeps : (t : Kept) (z : Start) (h : List Entry) (actor e page offset : ℕ) (store : Bool) (u : Outcome) → (u ≡ out.BadOffset) ⊎ (u ≡ out.NoEnd) →
-    StandsFor t z h → StandsFor t z (end_access actor e page offset store u ∷ h)
-refused_keeps t z h actor e page offset store u which st = elim which [
-  | inl bad ↦ subst (λ u. StandsFor t z (end_access actor e page offset store u ∷ h)) (sym bad) (nothing_keeps t z h _ (λ s. refl) (λ s. omega arith) (nothing_entered z h) (append-nil (flight z h)) st)
-  | inr none ↦ subst (λ u. StandsFor t z (end_access actor e page offset store u ∷ h)) (sym none) (nothing_keeps t z h _ (λ s. refl) (λ s. omega arith) (nothing_entered z h) (append-nil (flight z h)) st)
-]
-
 -- an END, where this is what a load made of its state of page 0, and this what one made of that of page 1
 abbrev loaded_by : Start → List Entry → ℕ → Option ℕ → Option ℕ → EndRecord
 loaded_by z h j n m = record {
   config = end_config z h j;
   written = length (written z h j ++ []) + until_config (z.written_count j) h j;
-  taken = until_config (z.taken_count j) h j;
+  taken = length (taken h j ++ []) + until_config (z.taken_count j) h j;
   esn = option_map_or (λ new. new) n (esn z h j);
   ese = option_map_or (λ new. new) m (ese z h j);
 }
@@ -103,30 +86,31 @@ after z h e j actor page offset old new store l =
     ap (λ second. loaded_by z h j (if (page == 0) && (e == j) then Some new else None) (if second && (e == j) then Some new else None)) (one_or_zero page l)
     ∙ picked z h j new (page == 0) (e == j)
 
--- e becomes r, which is what a load makes of it
-pub loaded_stands : (t : Kept) (z : Start) (h : List Entry) (actor e page offset : ℕ) (store : Bool) (r : EndRecord) (u : Outcome) →
+-- the ENDs become those of which e is what a load makes of it
+pub loaded_stands : (t : Kept) (z : Start) (h : List Entry) (actor e page offset : ℕ) (store : Bool) (ends : List EndRecord) (u : Outcome) →
     StandsFor t z h → e < ends_per_processor * t.board.limits.processors → page < END_PAGES →
-    u ≡ loaded offset (state_in (end_in t.ends e) page) → r ≡ after_load (end_in t.ends e) page offset →
+    u ≡ loaded offset (state_in (end_in t.ends e) page) → ends ≡ slice_set t.ends e (after_load (end_in t.ends e) page offset) →
     StandsFor (record {
       board = t.board;
       eases = t.eases;
       routes = t.routes;
-      ends = slice_set t.ends e r;
+      ends = ends;
       messages = t.messages;
     }) z (end_access actor e page offset store u ∷ h)
-loaded_stands t z h actor e page offset store r u st l two answer is =
+loaded_stands t z h actor e page offset store ends u st l two answer is =
     let q = state_in (end_in t.ends e) page in
     let new = (load_row offset q).pair in
     let x = end_access actor e page offset store (out.EndPq q new) in
-    subst (λ u. StandsFor (record { board = t.board; eases = t.eases; routes = t.routes; ends = slice_set t.ends e r; messages = t.messages }) z (end_access actor e page offset store u ∷ h)) (sym answer) (record {
+    subst (λ u. StandsFor (record { board = t.board; eases = t.eases; routes = t.routes; ends = ends; messages = t.messages }) z (end_access actor e page offset store u ∷ h)) (sym answer) (record {
       board = st.board;
       eases = st.eases;
       routes = λ s below. st.routes s below ∙ ap Some (omega arith);
-      ends = set_gives t.ends e (ends_per_processor * z.board.limits.processors) r
+      ends = λ j below. ap (λ (es : List EndRecord). slice_get es j) is
+          ∙ set_gives t.ends e (ends_per_processor * z.board.limits.processors) (after_load (end_in t.ends e) page offset)
           (end_of z h) (end_of z (x ∷ h)) st.ends
           (subst (λ (b : Board). e < ends_per_processor * b.limits.processors) st.board l)
-          (is ∙ ap (λ (k : EndRecord). with_state k page new) (kept_end t z h e st l) ∙ sym (after z h e e actor page offset q new store two ∙ at_same e (with_state (end_of z h e) page new) (end_of z h e)))
-          (λ j other. after z h e j actor page offset q new store two ∙ at_other e j (with_state (end_of z h j) page new) (end_of z h j) other);
+          (ap (λ (k : EndRecord). with_state k page new) (kept_end t z h e st l) ∙ sym (after z h e e actor page offset q new store two ∙ at_same e (with_state (end_of z h e) page new) (end_of z h e)))
+          (λ j other. after z h e j actor page offset q new store two ∙ at_other e j (with_state (end_of z h j) page new) (end_of z h j) other) j below;
       messages = st.messages ∙ sym (append-nil (flight z h));
       connected = st.connected;
     })

@@ -1,17 +1,20 @@
 -- What stays in range.
-use Rattle.std.proofs.Common.{ℕ, ◌≡◌, ◌<◌, ◌≤◌, ◌+◌, ◌^◌, Bool, true, false, if◌then◌else◌, List, length, arith, slice_set}
+use Rattle.std.proofs.Common.{ℕ, ◌≡◌, ◌<◌, ◌≤◌, ◌+◌, ◌^◌, Bool, true, false, if◌then◌else◌, List, length, refl, arith, slice_set, length-set}
 use Rattle.std.specs.Prelude.{All}
 use Rattle.std.proofs.lemmas.Bool.Decides.{nat_tests}
 use Rattle.std.proofs.lemmas.List.Elements.{All-set, All-get_or}
 use Rattle.xv_model.specs.declared.eas.Eas.{Eas}
 use Rattle.xv_model.specs.declared.board.Board.{Board}
 use Rattle.xv_model.specs.declared.operations.EndConfig.{EndConfig}
+use Rattle.xv_model.specs.declared.outcomes.Outcome.{Outcome}
 use Rattle.xv_model.specs.end.Flags.{is_valid, enqueues}
 use Rattle.xv_model.specs.source.PqTable.{trigger_row}
 use Rattle.xv_model.specs.end.EventStates.{asks_state}
 use Rattle.xv_model.specs.board.Validity.{valid_config}
-use Rattle.router.specs.declared.ends.EndRecord.{EndRecord}
-use Rattle.router.specs.Ends.{first_end, end_in, configured, IsEnd, HasCountsAtMost, HasRoom}
+use Rattle.end_queue.specs.declared.ends.EndRecord.{EndRecord}
+use Rattle.end_queue.specs.Ends.{first_end, end_in, configured, HasCountsAtMost, HasRoom}
+use Rattle.end_queue.specs.Queues.{one_taken, is_item, after_read}
+use Rattle.router.specs.Ends.{IsEnd}
 use Rattle.router.specs.Passes.{enqueued, notified, after_pass}
 use Rattle.router.specs.Routing.{reaches_end, ends_after}
 
@@ -70,3 +73,29 @@ ends_counted n ends a l all = by (reaches_end a)
 -- ENDs whose counts are at most n, below 2^63, have room
 pub have_room : (n : ℕ) (ends : List EndRecord) → n < 2 ^ 63 → All (HasCountsAtMost n) ends → All HasRoom ends
 have_room n ends l all k d inside = let before = all k d inside in record { written = omega arith; taken = omega arith }
+
+-- an END after a read of it
+taken_counted : (n : ℕ) (r : EndRecord) → HasCountsAtMost n r → HasCountsAtMost (n + 1) (one_taken r)
+taken_counted n r l = record { written = omega arith; taken = omega arith }
+
+-- the ENDs after a read
+pub read_in_range : (b : Board) (ends : List EndRecord) (e : ℕ) (u : Outcome) → e < length ends → All (IsEnd b) ends → All (IsEnd b) (after_read ends e u)
+read_in_range b ends e u l all = by (is_item u)
+  where
+    by : (item : Bool) → All (IsEnd b) (if item then slice_set ends e (one_taken (end_in ends e)) else ends)
+    by true = let old = All-get_or (IsEnd b) ends e first_end l all in All-set (IsEnd b) ends e (one_taken (end_in ends e)) (record { config = old.config; esn = old.esn; ese = old.ese }) all
+    by false = all
+
+pub read_counted : (n : ℕ) (ends : List EndRecord) (e : ℕ) (u : Outcome) → e < length ends → All (HasCountsAtMost n) ends → All (HasCountsAtMost (n + 1)) (after_read ends e u)
+read_counted n ends e u l all = by (is_item u)
+  where
+    by : (item : Bool) → All (HasCountsAtMost (n + 1)) (if item then slice_set ends e (one_taken (end_in ends e)) else ends)
+    by true = All-set (HasCountsAtMost (n + 1)) ends e (one_taken (end_in ends e)) (taken_counted n (end_in ends e) (All-get_or (HasCountsAtMost n) ends e first_end l all)) (one_more_in_all n ends all)
+    by false = one_more_in_all n ends all
+
+pub read_len : (ends : List EndRecord) (e : ℕ) (u : Outcome) → length (after_read ends e u) ≡ length ends
+read_len ends e u = by (is_item u)
+  where
+    by : (item : Bool) → length (if item then slice_set ends e (one_taken (end_in ends e)) else ends) ≡ length ends
+    by true = length-set ends e (one_taken (end_in ends e))
+    by false = refl

@@ -24,10 +24,11 @@ use Rattle.xv_model.specs.end.Descriptors.{end_config, until_config}
 use Rattle.xv_model.specs.end.EventStates.{esn, ese, asks_state}
 use Rattle.xv_model.specs.end.Memory.{wrote_at}
 use Rattle.xv_model.specs.end.Written.{written, written_count, wrote_in}
+use Rattle.xv_model.specs.end.Reading.{taken}
 use Rattle.xv_model.specs.route.Flight.{flight, messages_by}
 use Rattle.xv_model.specs.route.Routing.{next_by, route_outcome, routed_by}
-use Rattle.router.specs.declared.ends.EndRecord.{EndRecord}
-use Rattle.router.specs.Ends.{first_end, end_in}
+use Rattle.end_queue.specs.declared.ends.EndRecord.{EndRecord}
+use Rattle.end_queue.specs.Ends.{first_end, end_in}
 use Rattle.router.specs.Passes.{after_pass, pass_by, made_for}
 use Rattle.router.specs.Routing.{routed_in, ends_after, messages_after}
 use Rattle.router.specs.Tables.{Kept, StandsFor, end_of}
@@ -80,11 +81,11 @@ count_after before more n true false l = omega (arith, length-append {A = ℕ})
 count_after before more n false q l = omega (arith, length-append {A = ℕ})
 
 -- an END that has so many entries after a pass, of it or another one
-abbrev counted_in : Start → List Entry → ℕ → Bool → ℕ → EndRecord
-counted_in z h j same n = record {
+abbrev counted_in : Start → List Entry → ℕ → Bool → ℕ → List ℕ → EndRecord
+counted_in z h j same n ts = record {
   config = end_config z h j;
   written = n;
-  taken = until_config (z.taken_count j) h j;
+  taken = length ts + until_config (z.taken_count j) h j;
   esn = if same && asks_state (end_config z h j) then (trigger_row (esn z h j)).pair else esn z h j;
   ese = ese z h j;
 }
@@ -96,16 +97,17 @@ count_by z h j q = if q then written_count z h j + 1 else written_count z h j
 -- an END after a pass of e
 ran : (z : Start) (h : List Entry) (s actor k e j : ℕ) (w : Wrote) (next : Then) (q : Bool) →
     end_of z (route_of actor s k (ran_by e q w next) ∷ h) j
-    ≡ (if e == j then counted_in z h j true (count_by z h j q) else end_of z h j)
+    ≡ (if e == j then counted_in z h j true (count_by z h j q) (taken h j) else end_of z h j)
 ran z h s actor k e j w next q =
-    ap (counted_in z h j (e == j))
+    ap (λ n. counted_in z h j (e == j) n (taken h j ++ []))
     (count_after (written z h j) _ (until_config (z.written_count j) h j) (e == j) q
     (entered_by e j (eas z h s).eisn w next q))
+    ∙ ap (counted_in z h j (e == j) (if e == j then count_by z h j q else written_count z h j)) (append-nil (taken h j))
     ∙ by (e == j)
   where
     by : (same : Bool) →
-        counted_in z h j same (if same then count_by z h j q else written_count z h j)
-        ≡ (if same then counted_in z h j true (count_by z h j q) else end_of z h j)
+        counted_in z h j same (if same then count_by z h j q else written_count z h j) (taken h j)
+        ≡ (if same then counted_in z h j true (count_by z h j q) (taken h j) else end_of z h j)
     by true = refl
     by false = refl
 
@@ -152,7 +154,7 @@ masked t z h s actor k st l is = routed_stands t z h s actor k routed.Masked t.e
 passed_by : (t : Kept) (z : Start) (h : List Entry) (s actor k e : ℕ) (w : Wrote) (next : Then)
     (writes valid : Bool) → StandsFor t z h → s < z.board.limits.sources → k ≡ routes z h s →
     e < ends_per_processor * z.board.limits.processors →
-    let after = if valid then counted_in z h e true (count_by z h e writes) else end_of z h e in
+    let after = if valid then counted_in z h e true (count_by z h e writes) (taken h e) else end_of z h e in
     let run = if valid then Ran e (if writes then Some w else None) next else NoEnd e in
     StandsFor (after_route t s (k + 1) (slice_set t.ends e after)
     (t.messages ++ made_for s (end_config z h e) run)) z

@@ -7,8 +7,8 @@ use Rattle.xv_base.specs.Limits.{ends_per_processor}
 use Rattle.xv_model.specs.declared.eas.Eas.{Eas}
 use Rattle.xv_model.specs.declared.board.Board.{Board}
 use Rattle.xv_model.specs.account.Start.{start, first_eas}
-use Rattle.router.specs.declared.ends.EndRecord.{EndRecord}
-use Rattle.router.specs.Ends.{first_end}
+use Rattle.end_queue.specs.declared.ends.EndRecord.{EndRecord}
+use Rattle.end_queue.specs.Ends.{first_end}
 use Rattle.router.specs.Tables.{AreFirst, StandsFor}
 
 -- each element of copies of x is x

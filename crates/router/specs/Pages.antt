@@ -1,7 +1,7 @@
 -- What a load of a page makes of what is kept of an END.
 use Rattle.std.specs.Prelude.{ℕ, ◌==◌, if◌then◌else◌}
 use Rattle.xv_model.specs.end.Pages.{load_row}
-use Rattle.router.specs.declared.ends.EndRecord.{EndRecord}
+use Rattle.end_queue.specs.declared.ends.EndRecord.{EndRecord}
 
 -- the state that a page is of
 abbrev pub state_in : EndRecord → ℕ → ℕ

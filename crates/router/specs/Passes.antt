@@ -1,7 +1,8 @@
--- What a pass makes of what is kept of an END.
-use Rattle.std.specs.Prelude.{ℕ, ◌+◌, if◌then◌else◌, List, []}
+-- What a pass makes of what is kept of an END, and of memory.
+use Rattle.std.specs.Prelude.{ℕ, ◌+◌, ◌/◌, if◌then◌else◌, List, [], Option, Some, None, slice_set}
 use Rattle.xv_model.specs.declared.messages.Message.{Message}
 use Rattle.xv_model.specs.declared.operations.EndConfig.{EndConfig}
+use Rattle.xv_model.specs.declared.outcomes.Wrote.{Wrote}
 use Rattle.xv_model.specs.declared.outcomes.EndRun.{EndRun}
 use Rattle.xv_model.specs.declared.outcomes.EndRun.TheVariants.{Ran, NoEnd}
 use Rattle.xv_model.specs.source.PqTable.{trigger_row}
@@ -9,7 +10,7 @@ use Rattle.xv_model.specs.end.EventStates.{asks_state}
 use Rattle.xv_model.specs.end.Flags.{is_valid, enqueues}
 use Rattle.xv_model.specs.route.Routing.{next_by, write_by}
 use Rattle.xv_model.specs.route.Flight.{messages_by}
-use Rattle.router.specs.declared.ends.EndRecord.{EndRecord}
+use Rattle.end_queue.specs.declared.ends.EndRecord.{EndRecord}
 
 -- an END after a pass wrote into its queue, where it has one
 abbrev pub enqueued : EndRecord → EndRecord
@@ -46,3 +47,8 @@ pass_by r e payload =
 abbrev pub made_for : ℕ → EndConfig → EndRun → List Message
 made_for s c (Ran e wrote next) = messages_by next e c s
 made_for s c (NoEnd e) = []
+
+-- memory after a pass wrote this, or nothing
+abbrev pub with_write : Option Wrote → List ℕ → List ℕ
+with_write (Some w) memory = slice_set memory (w.addr / 4) w.word
+with_write None memory = memory

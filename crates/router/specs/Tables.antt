@@ -15,7 +15,7 @@ use Rattle.xv_model.specs.end.Written.{written_count}
 use Rattle.xv_model.specs.end.Reading.{taken_count}
 use Rattle.xv_model.specs.processor.Phases.{is_connected}
 use Rattle.xv_model.specs.route.Flight.{flight}
-use Rattle.router.specs.declared.ends.EndRecord.{EndRecord}
+use Rattle.end_queue.specs.declared.ends.EndRecord.{EndRecord}
 
 -- what the tables keep: an EAS and a count of routes for each source, a record for each END, and
 -- the messages in flight

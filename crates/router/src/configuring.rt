@@ -12,7 +12,7 @@ ghost use Rattle.xv_model.specs.call.Hypercalls.{is_source, is_target, source_co
 ghost use Rattle.xv_model.specs.call.Hypercalls.{bare_reply as bare_reply_of, hcall_reply};
 ghost use Rattle.xv_model.specs.board.Validity.{valid_config};
 ghost use Rattle.router.specs.Configuring.{IsAccepted};
-ghost use Rattle.router.specs.Ends.{HasCountsAtMost};
+ghost use Rattle.end_queue.specs.Ends.{HasCountsAtMost};
 ghost use Rattle.router.specs.Tables.{StandsFor};
 
 use crate::tables::Tables;
@@ -79,7 +79,7 @@ impl Tables {
         ensures counts { (n : ℕ)
             → All (HasCountsAtMost n) self.old.ends → All (HasCountsAtMost n) self.new.ends }
     {
-        self.ends[e as usize].configure(config);
+        self.ends.configure(e, config);
     }
 
     /// The hypercall H_INT_SET_SOURCE_CONFIG (0x3ac; QEMU's hw/intc/spapr_xive.c,

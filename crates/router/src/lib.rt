@@ -1,11 +1,11 @@
-//! Where the notices of sources go: EASes, ENDs with what was written into their queues, and the
-//! messages in flight. There is no memory yet: what a pass writes is computed, and kept nowhere.
+//! Where the notices of sources go: EASes, ENDs whose queues lie in the memory that is handed in, and
+//! the messages in flight.
 #![tactic(auto)]
 
 mod configuring;
-pub mod ends;
 mod pages;
 mod passes;
+mod reading;
 mod routing;
 pub mod tables;
 #[cfg(test)]

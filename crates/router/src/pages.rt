@@ -1,6 +1,6 @@
 //! Accesses to the pages of ENDs.
 
-ghost use Rattle.std.specs.Prelude.{◌≡◌, ◌<◌, ◌*◌, ◌↔◌, ◌⊎◌, ◌∷◌, ℕ, List, All, true, false};
+ghost use Rattle.std.specs.Prelude.{◌≡◌, ◌<◌, ◌*◌, ◌↔◌, ◌⊎◌, ◌∷◌, ℕ, List, All, length, slice_set, true, false};
 ghost use Rattle.xv_base.specs.Limits.{ends_per_processor};
 ghost use Rattle.xv_model.specs.declared.entries.Entry.{Entry};
 ghost use Rattle.xv_model.specs.declared.operations.Op.TheVariants.{EndEsb};
@@ -9,14 +9,14 @@ ghost use Rattle.xv_model.specs.account.Start.{Start};
 ghost use Rattle.xv_model.specs.account.Outcomes.{IsWellFormed};
 ghost use Rattle.xv_model.specs.end.Flags.{is_valid};
 ghost use Rattle.xv_model.specs.end.Pages.{loaded, end_page_answer};
-ghost use Rattle.router.specs.Ends.{HasCountsAtMost, end_in};
+ghost use Rattle.end_queue.specs.Ends.{HasCountsAtMost, end_in};
 ghost use Rattle.router.specs.Pages.{state_in, after_load};
 ghost use Rattle.router.specs.Tables.{StandsFor};
 
-use crate::ends::EndRecord;
 use crate::tables::Tables;
 use bitflags::Flags;
 use end_escalate::page_load;
+use end_queue::Ends;
 use xv_model::operations::EndFlags;
 use xv_model::outcomes::Outcome;
 use xv_model::pages::END_PAGES;
@@ -46,27 +46,26 @@ impl Tables {
         if store {
             return Outcome::BadOffset;
         }
-        if !self.ends[e as usize].config.flags.contains(EndFlags::VALID) {
+        if !self.ends.config(e).flags.contains(EndFlags::VALID) {
             return Outcome::NoEnd;
         }
-        load_state(&mut self.ends[e as usize], page, offset)
+        load_state(&mut self.ends, e, page, offset)
     }
 }
 
 /// Loads the page of a state of a valid END.
-fn load_state(end: &mut EndRecord, page: u8, offset: u16) -> Outcome
-    requires esn { end.old.esn < 4 }
-    requires ese { end.old.ese < 4 }
-    ensures outcome { result ≡ loaded offset (state_in end.old page) }
-    ensures end { end.new ≡ after_load end.old page offset }
+fn load_state(ends: &mut Ends, e: u32, page: u8, offset: u16) -> Outcome
+    requires { e < length ends.old }
+    ensures outcome { result ≡ loaded offset (state_in (end_in ends.old e) page) }
+    ensures ends { ends.new ≡ slice_set ends.old e (after_load (end_in ends.old e) page offset) }
     ensures well_formed { IsWellFormed result }
 {
-    let old = if page == 0 { end.esn } else { end.ese };
+    let old = if page == 0 { ends.esn(e) } else { ends.ese(e) };
     let new = page_load(old, offset);
     if page == 0 {
-        end.esn = new;
+        ends.set_esn(e, new);
     } else {
-        end.ese = new;
+        ends.set_ese(e, new);
     }
     Outcome::EndPq { old, new }
 }

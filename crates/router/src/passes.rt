@@ -1,47 +1,49 @@
 //! Passes of ENDs: what is written into a queue, how it goes on, and the message that it makes.
 
-ghost use Rattle.std.specs.Prelude.{◌≡◌, ◌<◌, ◌≤◌, ◌+◌, ◌^◌, ◌∷◌, ◌++◌, [], vec_len, vec_capacity};
+ghost use Rattle.std.specs.Prelude.{◌≡◌, ◌<◌, ◌≤◌, ◌+◌, ◌*◌, ◌^◌, ◌∷◌, ◌++◌, [], IfSome, IsTrue, Some, true};
+ghost use Rattle.std.specs.Prelude.{length, slice_set, vec_len, vec_capacity};
+ghost use Rattle.xv_model.specs.board.Validity.{fits};
+ghost use Rattle.xv_model.specs.end.Flags.{is_valid};
+ghost use Rattle.xv_model.specs.end.Memory.{write_of};
 ghost use Rattle.xv_model.specs.route.Routing.{next_by, write_by};
-ghost use Rattle.router.specs.Ends.{HasRoom, IsNarrow};
-ghost use Rattle.router.specs.Passes.{enqueued, notified, after_pass, pass_by, made_for};
+ghost use Rattle.end_queue.specs.Ends.{HasPage, HasRoom, end_in, has_queue};
+ghost use Rattle.router.specs.Passes.{enqueued, notified, after_pass, pass_by, made_for, with_write};
 
-use crate::ends::EndRecord;
 use bitflags::Flags;
 use end_escalate::notify_state;
+use end_queue::Ends;
+use guest_ram::Ram;
 use xv_model::messages::Message;
 use xv_model::operations::{EndConfig, EndFlags};
 use xv_model::outcomes::{EndRun, Then, Wrote};
 
-/// Writes a payload into the queue of an END, where it has one, and says what was written: the
-/// payload has 31 bits, and the generation is the word's top bit (QEMU's hw/intc/xive.c,
-/// xive_end_enqueue).
-pub(crate) fn enqueue(end: &mut EndRecord, payload: u32) -> Option<Wrote>
-    requires queue { IsNarrow end.old.config }
-    requires room { HasRoom end.old }
+/// Writes a payload of 31 bits into the queue of a valid END, where it has one.
+fn write(ends: &mut Ends, ram: &mut Ram, e: u32, payload: u32) -> Option<Wrote>
+    requires end { e < length ends.old }
+    requires valid { is_valid (end_in ends.old e).config ≡ true }
+    requires page { IsTrue (has_queue (end_in ends.old e).config) →
+        HasPage (length ram.old) (end_in ends.old e).config }
+    requires room { HasRoom (end_in ends.old e) }
     requires payload { payload < 2 ^ 31 }
-    ensures wrote { result ≡ write_by end.old.config end.old.written payload }
-    ensures end { end.new ≡ enqueued end.old }
+    ensures wrote { result ≡ write_by (end_in ends.old e).config (end_in ends.old e).written payload }
+    ensures ends { ends.new ≡ slice_set ends.old e (enqueued (end_in ends.old e)) }
+    ensures ram { ram.new ≡ with_write result ram.old }
+    ensures fits { IfSome result (λ w. IsTrue (fits (4 * length ram.old) w.addr 4)) }
 {
-    if !end.config.flags.contains(EndFlags::ENQUEUE) {
-        return None;
+    if ends.config(e).flags.contains(EndFlags::ENQUEUE) {
+        Some(ends.enqueue(ram, e, payload))
+    } else {
+        None
     }
-    let entries = 1u64 << (end.config.qshift - 2);
-    let number = end.config.start + end.written;
-    let generation: u32 = if number / entries % 2 == 0 { 1 } else { 0 };
-    end.written += 1;
-    Some(Wrote {
-        addr: end.config.qaddr + 4 * (number % entries),
-        word: generation * (1 << 31) + payload,
-    })
 }
 
 /// How a pass of an END goes on. Without s and n it asks ESn, which is triggered by that.
-pub(crate) fn notify(end: &mut EndRecord) -> Then
-    requires esn { end.old.esn < 4 }
-    ensures next { result ≡ next_by end.old.config end.old.esn }
-    ensures end { end.new ≡ notified end.old }
+pub(crate) fn notify(ends: &mut Ends, e: u32) -> Then
+    requires end { e < length ends.old }
+    ensures next { result ≡ next_by (end_in ends.old e).config (end_in ends.old e).esn }
+    ensures ends { ends.new ≡ slice_set ends.old e (notified (end_in ends.old e)) }
 {
-    let flags = end.config.flags;
+    let flags = ends.config(e).flags;
     if flags.contains(EndFlags::SILENT) {
         return if flags.contains(EndFlags::ESCALATE) {
             Then::Escalate
@@ -52,8 +54,8 @@ pub(crate) fn notify(end: &mut EndRecord) -> Then
     if flags.contains(EndFlags::NOTIFY_ALWAYS) {
         return Then::Present;
     }
-    let (esn, forwards) = notify_state(end.esn);
-    end.esn = esn;
+    let (esn, forwards) = notify_state(ends.esn(e));
+    ends.set_esn(e, esn);
     if forwards {
         Then::Present
     } else {
@@ -63,19 +65,22 @@ pub(crate) fn notify(end: &mut EndRecord) -> Then
 
 /// A pass of an END with a payload: it is written first, and then the END notifies, escalates or
 /// does neither (QEMU's hw/intc/xive.c, xive_router_end_notify).
-pub(crate) fn pass(end: &mut EndRecord, e: u32, payload: u32) -> EndRun
-    requires queue { IsNarrow end.old.config }
-    requires esn { end.old.esn < 4 }
-    requires room { HasRoom end.old }
+pub(crate) fn pass(ends: &mut Ends, ram: &mut Ram, e: u32, payload: u32) -> EndRun
+    requires end { e < length ends.old }
+    requires page { IsTrue (has_queue (end_in ends.old e).config) →
+        HasPage (length ram.old) (end_in ends.old e).config }
+    requires room { HasRoom (end_in ends.old e) }
     requires payload { payload < 2 ^ 31 }
-    ensures pass { result ≡ pass_by end.old e payload }
-    ensures end { end.new ≡ after_pass end.old }
+    ensures pass { result ≡ pass_by (end_in ends.old e) e payload }
+    ensures ends { ends.new ≡ slice_set ends.old e (after_pass (end_in ends.old e)) }
+    ensures ram { ram.new ≡ with_write (write_of (Some result)) ram.old }
+    ensures fits { IfSome (write_of (Some result)) (λ w. IsTrue (fits (4 * length ram.old) w.addr 4)) }
 {
-    if !end.config.flags.contains(EndFlags::VALID) {
+    if !ends.config(e).flags.contains(EndFlags::VALID) {
         return EndRun::NoEnd { e };
     }
-    let wrote = enqueue(end, payload);
-    let then = notify(end);
+    let wrote = write(ends, ram, e, payload);
+    let then = notify(ends, e);
     EndRun::Ran { e, wrote, then }
 }
 

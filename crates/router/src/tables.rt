@@ -8,32 +8,32 @@ ghost use Rattle.xv_model.specs.board.Boards.{IsBoard};
 ghost use Rattle.xv_model.specs.account.Start.{Start, start, first_eas as first_eas_of};
 ghost use Rattle.xv_model.specs.source.Notices.{routes as routes_of};
 ghost use Rattle.xv_model.specs.source.Eas.{initialised as is_initialised};
-ghost use Rattle.router.specs.Ends.{IsEnd, HasCountsAtMost};
-ghost use Rattle.router.specs.Tables.{AreFirst, StandsFor, end_of};
+ghost use Rattle.end_queue.specs.Ends.{HasCountsAtMost};
+ghost use Rattle.router.specs.Ends.{IsEnd};
+ghost use Rattle.router.specs.Tables.{AreFirst, StandsFor};
 
-use crate::ends::EndRecord;
+use end_queue::Ends;
 use std::alloc::Global;
 use std::marker::Model;
 use xv_base::NoMemory;
-use xv_base::limits::{ENDS_PER_PROCESSOR, MOST_MESSAGES};
+use xv_base::limits::MOST_MESSAGES;
 use xv_model::board::Board;
 use xv_model::eas::Eas;
 use xv_model::messages::Message;
-use xv_model::operations::EndConfig;
 
-/// The tables of a board: an EAS and a count of routes for each source, a record for each END, and
-/// the messages in flight.
+/// The tables of a board: an EAS and a count of routes for each source, the ENDs, and the messages in
+/// flight.
 #[derive(Drop)]
 pub struct Tables {
     pub(crate) board: Board,
     pub(crate) eases: Vec<Eas>,
     pub(crate) routes: Vec<u64>,
-    pub(crate) ends: Vec<EndRecord>,
+    pub(crate) ends: Ends,
     pub(crate) messages: Vec<Message>,
 }
 
 impl Model for Tables {
-    ghost use Rattle.std.specs.Prelude.{◌≡◌, ◌≤◌, ◌*◌, vec_len, vec_capacity, All};
+    ghost use Rattle.std.specs.Prelude.{◌≡◌, ◌≤◌, ◌*◌, length, vec_len, vec_capacity, All};
     ghost use Rattle.xv_base.specs.Limits.{ends_per_processor, most_messages};
     ghost use Rattle.xv_model.specs.board.Boards.{IsBoard};
     ghost use Rattle.router.specs.Ends.{IsEnd};
@@ -45,25 +45,16 @@ impl Model for Tables {
       board = t.board;
       eases = t.eases.items;
       routes = t.routes.items;
-      ends = t.ends.items;
+      ends = t.ends;
       messages = t.messages.items;
     } };
 
     ghost invariant = { λ t. IsBoard t.board
         × (vec_len t.eases ≡ t.board.limits.sources) × (vec_len t.routes ≡ t.board.limits.sources)
-        × (vec_len t.ends ≡ ends_per_processor * t.board.limits.processors)
-        × All (IsEas t.board) t.eases.items × All (IsEnd t.board) t.ends.items
+        × (length t.ends ≡ ends_per_processor * t.board.limits.processors)
+        × All (IsEas t.board) t.eases.items × All (IsEnd t.board) t.ends
         × (vec_len t.messages ≤ most_messages) × (most_messages ≤ vec_capacity t.messages) };
 }
-
-/// How an END starts: it isn't valid, and its states are 01.
-const FIRST_END: EndRecord = EndRecord {
-    config: EndConfig::OFF,
-    written: 0,
-    taken: 0,
-    esn: 1,
-    ese: 1,
-};
 
 /// The EAS that a source starts with: one that is claimed is valid and masked (QEMU's
 /// hw/intc/spapr_xive.c, spapr_xive_reset).
@@ -104,8 +95,7 @@ impl Tables {
     {
         let eases = first_eases(alloc, board)?;
         let routes = vec![in alloc; 0; board.limits.sources as usize]?;
-        let ends = vec![in alloc; FIRST_END; ENDS_PER_PROCESSOR as usize
-            * board.limits.processors as usize]?;
+        let ends = Ends::build(alloc, board)?;
         let messages = Vec::with_capacity(alloc, MOST_MESSAGES)?;
         Ok(Tables {
             board: *board,
@@ -120,8 +110,6 @@ impl Tables {
     pub fn board(&self) -> &Board
         ensures value { result.now ≡ self.now.board }
         ensures board { IsBoard result.now }
-        ensures ends { length self.now.ends
-            ≡ ends_per_processor * self.now.board.limits.processors }
     {
         &self.board
     }
@@ -144,15 +132,13 @@ impl Tables {
         self.eases[s as usize].valid
     }
 
-    /// What is kept of an END. It shows whether the END has room, as a route needs it of each one.
-    pub fn queue(&self, e: u32) -> &EndRecord
-        requires { e < ends_per_processor * self.now.board.limits.processors }
-        ensures value { (z : Start) (h : List Entry)
-            → StandsFor self.now z h → result.now ≡ end_of z h e }
-        ensures end { slice_get self.now.ends e ≡ Some result.now }
-        ensures in_range { IsEnd self.now.board result.now }
+    /// The ENDs. Their counts show whether each has room, as a route needs it.
+    pub fn ends(&self) -> &Ends
+        ensures value { result.now ≡ self.now.ends }
+        ensures len { length result.now ≡ ends_per_processor * self.now.board.limits.processors }
+        ensures in_range { All (IsEnd self.now.board) result.now }
     {
-        &self.ends[e as usize]
+        &self.ends
     }
 
     /// How many messages are in flight.

@@ -1,5 +1,5 @@
 use Rattle.std.proofs.Common.{ℕ, ◌<◌}
-use Rattle.router.specs.Ends.{HasRoom, end_in}
+use Rattle.end_queue.specs.Ends.{HasRoom, end_in}
 use Rattle.router.proofs.tests.has_room.Given as goal
 
 -- the ENDs so far have room

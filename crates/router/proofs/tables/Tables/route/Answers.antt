@@ -1,8 +1,11 @@
 use Rattle.std.proofs.Common.{◌<◌, ◌+◌, List, length, rules, subst, sym}
 use Rattle.std.specs.Prelude.{All}
-use Rattle.router.specs.declared.ends.EndRecord.{EndRecord}
-use Rattle.router.specs.Ends.{IsEnd, HasCountsAtMost}
+use Rattle.end_queue.specs.declared.ends.EndRecord.{EndRecord}
+use Rattle.end_queue.specs.Ends.{HasCountsAtMost}
+use Rattle.router.specs.Ends.{IsEnd}
 use Rattle.router.specs.Tables.{Kept, IsEas, StandsFor}
+use Rattle.router.specs.Routing.{write_in}
+use Rattle.router.proofs.Memory.{routed_memory, routed_size}
 use Rattle.router.proofs.Ranges.{ends_in_range, ends_counted}
 use Rattle.router.proofs.Routed.{route_stands, route_answer, full_answer}
 use Rattle.router.proofs.tables.Tables.route.Goals as goal
@@ -20,13 +23,13 @@ invariant_of-self c =
     let a = c.index-eas.result.now in
     let inside : c.args.s < i.board.limits.sources = subst (λ (m : Kept). c.args.s < m.board.limits.sources) (sym c.self.view_is) c.requires.source in
     let range : IsEas i.board a = subst (IsEas i.board) (sym c.index-eas.ensures) (k.4 c.args.s a (search rules)) in
-    let end : a.end < length i.ends.items = search rules in (
+    let end : a.end < length i.ends = search rules in (
       k.0,
       k.1,
       k.2,
       search rules,
       k.4,
-      subst (λ (ends : List EndRecord). All (IsEnd i.board) ends) (sym c.route_by_eas-routed.ensures.ends) (ends_in_range i.board i.ends.items a end k.5),
+      subst (λ (ends : List EndRecord). All (IsEnd i.board) ends) (sym c.route_by_eas-routed.ensures.ends) (ends_in_range i.board i.ends a end k.5),
       search rules,
       search rules,
     )
@@ -51,7 +54,7 @@ returns-clause-stands c = λ z h actor before is_f.
     let st = subst (λ (m : Kept). StandsFor m z h) (sym c.self.view_is) before in
     let inside : c.args.s < i.board.limits.sources = subst (λ (m : Kept). c.args.s < m.board.limits.sources) (sym c.self.view_is) c.requires.source in
     let range : IsEas i.board a = subst (IsEas i.board) (sym c.index-eas.ensures) (k.4 c.args.s a (search rules)) in
-    route_stands _ z h c.args.s actor c.index-k.result.now a step.result step.new.ends.items step.new.messages.items st inside
+    route_stands _ z h c.args.s actor c.index-k.result.now a step.result step.new.ends step.new.messages.items st inside
     c.index-k.ensures range.end step.ensures.routed step.ensures.ends step.ensures.messages
 
 pub returns-clause-counts : goal.returns-clause-counts
@@ -61,6 +64,14 @@ returns-clause-counts c = λ n before.
     let a = c.index-eas.result.now in
     let inside : c.args.s < i.board.limits.sources = subst (λ (m : Kept). c.args.s < m.board.limits.sources) (sym c.self.view_is) c.requires.source in
     let range : IsEas i.board a = subst (IsEas i.board) (sym c.index-eas.ensures) (k.4 c.args.s a (search rules)) in
-    let end : a.end < length i.ends.items = search rules in
+    let end : a.end < length i.ends = search rules in
     subst (λ (ends : List EndRecord). All (HasCountsAtMost (n + 1)) ends) (sym c.route_by_eas-routed.ensures.ends)
-    (ends_counted n i.ends.items a end (subst (λ (m : Kept). All (HasCountsAtMost n) m.ends) (sym c.self.view_is) before))
+    (ends_counted n i.ends a end (subst (λ (m : Kept). All (HasCountsAtMost n) m.ends) (sym c.self.view_is) before))
+
+pub returns-clause-memory : goal.returns-clause-memory
+returns-clause-memory c = λ z h actor st.
+    let step = c.route_by_eas-routed in
+    routed_memory c.args.ram.now step.new.ram z h actor c.args.s _ step.result st step.ensures.fits step.ensures.ram
+
+pub returns-clause-size : goal.returns-clause-size
+returns-clause-size c = routed_size c.args.ram.now c.route_by_eas-routed.new.ram (write_in c.route_by_eas-routed.result) c.route_by_eas-routed.ensures.ram

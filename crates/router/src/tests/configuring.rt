@@ -1,0 +1,47 @@
+//! Configurations of sources.
+
+use crate::tests::{Bench, config, small_board};
+use xv_model::outcomes::Routed;
+
+#[test]
+fn codes_of_source_configurations(rt: HostRuntime) {
+    let bench = &mut Bench::build(&rt, rt.alloc(), &small_board());
+    let cases = [
+        ([4, 0, 0, 6, 0], -4),
+        ([0, 4, 0, 6, 0], -55),
+        ([0, 3, 0, 6, 0], -55),
+        ([0, 0, 9, 7, 0], -57),
+        ([0, 0, 2, 6, 0], -56),
+        ([0, 0, 1, 6, 0], -56),
+        ([0, 0, 0, 6, 0], 0),
+        ([0, 0, 9, 0xff, 0], 0),
+    ];
+    for (args, code) in cases {
+        assert_eq!(rt;
+            bench.tables.set_source_config(&args).code,
+            code,
+            "at {code}"
+        );
+    }
+    assert!(rt; matches!(bench.routed(&rt, 1), Routed::Masked));
+}
+
+#[test]
+fn payload_without_its_flag(rt: HostRuntime) {
+    let bench = &mut Bench::build(&rt, rt.alloc(), &small_board());
+    bench.configure(&rt, 6, &config(3));
+    assert_eq!(rt;
+        bench
+            .tables
+            .set_source_config(&[2, 0, 0, 6, 0x8000_0009])
+            .code,
+        0
+    );
+    assert_eq!(rt; bench.tables.set_source_config(&[1, 0, 0, 6, 5]).code, 0);
+    assert!(rt; matches!(bench.routed(&rt, 1), Routed::Masked));
+    assert_eq!(rt; bench.tables.set_source_config(&[0, 0, 0, 6, 5]).code, 0);
+    assert_eq!(rt; bench.passed(&rt, 2), (Some((0x4000, 0x8000_0009)), true));
+    assert_eq!(rt; bench.tables.set_source_config(&[0, 0, 0, 0xff, 0]).code, 0);
+    assert_eq!(rt; bench.tables.set_source_config(&[0, 0, 0, 6, 0]).code, 0);
+    assert_eq!(rt; bench.passed(&rt, 3), (Some((0x4004, 0x8000_0000)), false));
+}
