@@ -1,7 +1,6 @@
 -- A step of a machine that represents an account.
 use Rattle.std.proofs.Common.{ℕ, ◌≡◌, ◌+◌, ◌-◌, ◌<◌, ◌≤◌, Bool, true, false, if◌then◌else◌, List, ◌∷◌, Some, None, refl, sym, ◌∙◌, ap, subst, arith, suc, slice_index_or, slice_set, add-one}
-use Rattle.std.specs.Prelude.{nat_lt, option_and_then}
-use Rattle.std.specs.Option.{option_map_or}
+use Rattle.std.specs.Prelude.{◌==◌, ◌&&◌, ◌%◌, ◌^◌, nat_lt}
 use Rattle.std.proofs.lemmas.Bool.{and_parts, ltb-true, eqb-true}
 use Rattle.xv_model.specs.declared.board.Board.{Board}
 use Rattle.xv_model.specs.declared.operations.PqOp.{PqOp}
@@ -15,10 +14,16 @@ use Rattle.xv_model.specs.board.Boards.{is_level, source_pages}
 use Rattle.xv_model.specs.board.Validity.{has_op, end_count, valid}
 use Rattle.xv_model.specs.declared.pages.TheConstants.{END_PAGES}
 use Rattle.xv_model.specs.account.Start.{Start}
-use Rattle.xv_model.specs.account.Kinds.{Word, Rest, access_of}
-use Rattle.xv_model.specs.account.Legal.{answer_on, legal}
-use Rattle.xv_model.specs.source.Pages.{page_op, untouched_answer}
-use Rattle.xv_model.specs.end.Flags.{is_valid}
+use Rattle.xv_model.specs.account.Kinds.{access_of}
+use Rattle.xv_model.specs.account.Legal.{legal}
+use Rattle.xv_model.specs.declared.operations.EndConfig.{EndConfig}
+use Rattle.xv_model.specs.board.Validity.{fits, ram_size}
+use Rattle.xv_model.specs.end.Flags.{is_valid, enqueues}
+use Rattle.xv_model.specs.end.Memory.{place, generation, word_at, peek_outcome, zero_outcome}
+use Rattle.xv_model.specs.end.Reading.{taken_count, top_bit, read_outcome}
+use Rattle.xv_model.specs.route.Flight.{flight}
+use Rattle.router.proofs.Keeping.{nothing_entered, nothing_keeps}
+use Rattle.std.proofs.lemmas.List.{append-nil}
 use Rattle.xv_model.specs.end.Descriptors.{end_config}
 use Rattle.xv_model.specs.end.Pages.{state_of, load_row, loaded, end_page_answer}
 use Rattle.xv_model.specs.source.Pairs.{pq, asserted}
@@ -29,6 +34,7 @@ use Rattle.xv_model.specs.route.Routing.{route_outcome}
 use Rattle.xv_model.proofs.HalvesLemmas.{pq-skips, asserted-skips, forwards-skips}
 use Rattle.esb_pq.specs.Word.{SourceParts}
 use Rattle.esb_pq.specs.Applied.{cell_at}
+use Rattle.guest_ram.specs.Ram.{StandsFor as MemoryStandsFor}
 use Rattle.router.specs.Tables.{Kept, StandsFor as TablesStandFor}
 use Rattle.router.proofs.Elements.{read}
 use Rattle.machine.specs.Answering.{forwarded_in, consumed_in}
@@ -144,6 +150,60 @@ end_page_steps t t' words z h actor e page offset store p u st is answer stands 
     by f bad none pair false true = pair (state_of z h e page) (load_row offset (state_of z h e page)).pair
     by f bad none pair false false = none
 
+-- a read of the queue of an END
+pub read_steps : (t t' : Kept) (words : List SourceParts) (z : Start) (h : List Entry) (actor e : ℕ) (p : Op) (u : Outcome) →
+    AreParts t words z h → p ≡ op.Read e → u ≡ read_outcome z h e →
+    TablesStandFor t' z (record { actor = actor; op = op.Read e; outcome = u } ∷ h) →
+    Steps t words t' words z h (record { actor = actor; op = p; outcome = u })
+read_steps t t' words z h actor e p u st is answer stands =
+    subst (λ p. Steps t words t' words z h (record { actor = actor; op = p; outcome = u })) (sym is)
+    (quiet_steps t t' words z h (record { actor = actor; op = op.Read e; outcome = u }) st refl refl
+    (ap consumed_in answer ∙ by consumed_in refl refl (λ payload. refl) (is_valid c && enqueues c) (top_bit word == generation c j))
+    (ap forwarded_in answer ∙ by forwarded_in refl refl (λ payload. refl) (is_valid c && enqueues c) (top_bit word == generation c j))
+    answer stands)
+  where
+    c : EndConfig
+    c = end_config z h e
+
+    j : ℕ
+    j = c.start + taken_count z h e
+
+    word : ℕ
+    word = word_at z h (place c j)
+
+    by : (f : Outcome → ℕ) → f out.NoQueue ≡ 0 → f out.Empty ≡ 0 → ((payload : ℕ) → f (out.Item payload) ≡ 0) → (queued there : Bool) →
+        f (if queued then (if there then out.Item (word % 2 ^ 31) else out.Empty) else out.NoQueue) ≡ 0
+    by f none empty item false there = none
+    by f none empty item true false = empty
+    by f none empty item true true = item (word % 2 ^ 31)
+
+-- an operation on memory that answers one of two things by whether an address is in range
+memory_steps : (t : Kept) (words : List SourceParts) (z : Start) (h : List Entry) (x : Entry) (fit : Bool) (u : Outcome) → AreParts t words z h →
+    access_of z.board x.op ≡ None → route_in x.op x.outcome ≡ None → consumed_in u ≡ 0 → forwarded_in u ≡ 0 → x.outcome ≡ (if fit then u else out.BadRange) → x.outcome ≡ legal z h x.op →
+    TablesStandFor t z (x ∷ h) → Steps t words t words z h x
+memory_steps t words z h x fit u st none unrouted_here consumes forwards_none is answer stands =
+    quiet_steps t t words z h x st none unrouted_here (ap consumed_in is ∙ by consumed_in consumes refl fit) (ap forwarded_in is ∙ by forwarded_in forwards_none refl fit) answer stands
+  where
+    by : (f : Outcome → ℕ) → f u ≡ 0 → f out.BadRange ≡ 0 → (fit : Bool) → f (if fit then u else out.BadRange) ≡ 0
+    by f here past true = here
+    by f here past false = past
+
+-- a look at a word
+pub peek_steps : (t : Kept) (words : List SourceParts) (z : Start) (h : List Entry) (actor addr : ℕ) (p : Op) (u : Outcome) →
+    AreParts t words z h → p ≡ op.Peek addr → u ≡ peek_outcome z h addr → Steps t words t words z h (record { actor = actor; op = p; outcome = u })
+peek_steps t words z h actor addr p u st is answer =
+    subst (λ p. Steps t words t words z h (record { actor = actor; op = p; outcome = u })) (sym is)
+    (memory_steps t words z h (record { actor = actor; op = op.Peek addr; outcome = u }) (fits (ram_size z.board) addr 4) (out.Cell (word_at z h addr)) st refl refl refl refl answer answer
+    (nothing_keeps t z h _ (λ s. refl) (λ s. omega arith) (nothing_entered z h) (append-nil (flight z h)) st.tables))
+
+-- some bytes that are made zero
+pub zero_steps : (t : Kept) (words : List SourceParts) (z : Start) (h : List Entry) (actor addr len : ℕ) (p : Op) (u : Outcome) →
+    AreParts t words z h → p ≡ op.Zero addr len → u ≡ zero_outcome z.board addr len → Steps t words t words z h (record { actor = actor; op = p; outcome = u })
+zero_steps t words z h actor addr len p u st is answer =
+    subst (λ p. Steps t words t words z h (record { actor = actor; op = p; outcome = u })) (sym is)
+    (memory_steps t words z h (record { actor = actor; op = op.Zero addr len; outcome = u }) (fits (ram_size z.board) addr len) out.Fine st refl refl refl refl answer answer
+    (nothing_keeps t z h _ (λ s. refl) (λ s. omega arith) (nothing_entered z h) (append-nil (flight z h)) st.tables))
+
 -- a SET_SOURCE_CONFIG, which is the hypercall that is valid
 pub call_steps : (t t' : Kept) (words : List SourceParts) (z : Start) (h : List Entry) (actor number : ℕ) (args : List ℕ) (p : Op) (reply : HReply) →
     AreParts t words z h → p ≡ op.Hcall number args → valid t.board p ≡ true → reply ≡ hcall_reply z h args →
@@ -157,11 +217,12 @@ call_steps t t' words z h actor number args p reply st is v answer stands =
     st refl refl refl refl (ap out.Reply answer) stands)
 
 -- the machine after a step, whose parts represent the account with the entry
-pub stands_after : (m m' : Held) (z : Start) (h : List Entry) (x : Entry) → StandsFor m z h → AreParts m'.tables m'.words z (x ∷ h) →
+pub stands_after : (m m' : Held) (z : Start) (h : List Entry) (x : Entry) → StandsFor m z h → AreParts m'.tables m'.words z (x ∷ h) → MemoryStandsFor m'.memory z (x ∷ h) →
     m'.count ≡ m.count + 1 → all_outstanding z (x ∷ h) + consumed_in x.outcome ≡ all_outstanding z h + forwarded_in x.outcome →
     m'.notices ≡ m.notices + forwarded_in x.outcome - consumed_in x.outcome → StandsFor m' z (x ∷ h)
-stands_after m m' z h x st parts count_is left_is notices_are = record {
+stands_after m m' z h x st parts memory count_is left_is notices_are = record {
   parts = parts;
+  memory = memory;
   index = count_is ∙ add-one m.count ∙ ap suc st.index;
   notices = let before = st.notices in omega (arith, before, left_is, notices_are);
 }

@@ -10,12 +10,14 @@ use Rattle.xv_model.specs.source.Pairs.{pq, asserted}
 use Rattle.xv_model.specs.source.Notices.{forwards, routes, all_outstanding}
 use Rattle.xv_model.specs.account.Index.{next_index}
 use Rattle.esb_pq.specs.Word.{SourceParts}
+use Rattle.guest_ram.specs.Ram.{StandsFor as MemoryStandsFor}
 use Rattle.router.specs.Tables.{Kept, StandsFor as TablesStandFor}
 
--- what a machine keeps: the router's tables, the words of sources, how many entries were made, and
--- how many notices are outstanding
+-- what a machine keeps: the router's tables, the words of memory, those of sources, how many entries were
+-- made, and how many notices are outstanding
 pub record Held : Type 0 where
   pub tables : Kept
+  pub memory : List ℕ
   pub words : List SourceParts
   pub count : ℕ
   pub notices : ℕ
@@ -43,9 +45,10 @@ pub record AreParts (t : Kept) (ws : List SourceParts) (z : Start) (h : List Ent
   pub forwarded : (s : ℕ) → routes z h s ≤ forwards z h s
   pub idle : (v : ℕ) → v < z.board.limits.processors → IsIdle z v
 
--- the machine represents the account: its parts and its counts are what the account gives
+-- the machine represents the account: its parts, its memory and its counts are what the account gives
 pub record StandsFor (m : Held) (z : Start) (h : List Entry) : Type 0 where
   pub parts : AreParts m.tables m.words z h
+  pub memory : MemoryStandsFor m.memory z h
   pub index : m.count ≡ next_index z h
   pub notices : m.notices ≡ all_outstanding z h
 

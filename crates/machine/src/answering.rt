@@ -1,19 +1,22 @@
-//! What an operation answers, and what it does to the router's tables and to its source's word.
+//! What an operation answers, and what it does to the router's tables, to memory and to its source's word.
 
-ghost use Rattle.std.specs.Prelude.{◌≡◌, ◌+◌, ◌≤◌, ◌∷◌, ℕ, All, length, List, IsTrue};
+ghost use Rattle.std.specs.Prelude.{◌≡◌, ◌+◌, ◌*◌, ◌≤◌, ◌∷◌, ℕ, All, length, List, IsTrue};
 ghost use Rattle.xv_model.specs.declared.entries.Entry.{Entry};
 ghost use Rattle.xv_model.specs.account.Start.{Start};
 ghost use Rattle.xv_model.specs.source.Notices.{all_outstanding};
 ghost use Rattle.xv_model.specs.account.Legal.{answer_by, legal};
 ghost use Rattle.xv_model.specs.account.Outcomes.{IsWellFormed};
-ghost use Rattle.xv_model.specs.board.Validity.{has_op, valid};
+ghost use Rattle.xv_model.specs.board.Validity.{has_op, ram_size, valid};
 ghost use Rattle.esb_pq.specs.Applied.{cell_at, by_table, word_in};
-ghost use Rattle.router.specs.Ends.{HasRoom, HasCountsAtMost};
+ghost use Rattle.guest_ram.specs.Ram.{StandsFor as MemoryStandsFor};
+ghost use Rattle.end_queue.specs.Ends.{HasRoom, HasCountsAtMost};
 ghost use Rattle.machine.specs.Answering.{forwarded_in, consumed_in, kind_on};
 ghost use Rattle.machine.specs.Machine.{AreLevels, AreParts};
 
+use crate::memory::{peek, zero};
 use esb_mmio::{BadOffset, EsbOp, SourceKind, decode};
 use esb_pq::{SourceWord, apply, outcome_of, word_after};
+use guest_ram::Ram;
 use router::tables::Tables;
 use xv_model::board::Board;
 use xv_model::operations::{Op, PqOp};
@@ -43,9 +46,10 @@ fn kind_of(board: &Board, level: bool) -> SourceKind
     }
 }
 
-/// What an operation answers. The tables and the words then represent the account with that entry.
+/// What an operation answers. The tables, the memory and the words then represent the account with that entry.
 pub(crate) fn answer(
     tables: &mut Tables,
+    ram: &mut Ram,
     words: &mut [SourceWord],
     levels: &[bool],
     op: &Op,
@@ -54,13 +58,18 @@ pub(crate) fn answer(
     requires words { length words.old ≡ tables.old.board.limits.sources }
     requires sources { length levels.now ≡ tables.old.board.limits.sources }
     requires levels { AreLevels tables.old.board levels.now }
+    requires memory { 4 * length ram.old ≡ ram_size tables.old.board }
     requires room { All HasRoom tables.old.ends }
-    ensures outcome { (z : Start) (h : List Entry)
-        → AreParts tables.old words.old z h → result ≡ legal z h op.now }
+    ensures outcome { (z : Start) (h : List Entry) → AreParts tables.old words.old z h
+        → MemoryStandsFor ram.old z h → result ≡ legal z h op.now }
     ensures parts { (z : Start) (h : List Entry) (actor : ℕ) → AreParts tables.old words.old z h
-        → AreParts tables.new words.new z
+        → MemoryStandsFor ram.old z h → AreParts tables.new words.new z
+        (record { actor = actor; op = op.now; outcome = result } ∷ h) }
+    ensures memory { (z : Start) (h : List Entry) (actor : ℕ) → MemoryStandsFor ram.old z h
+        → MemoryStandsFor ram.new z
         (record { actor = actor; op = op.now; outcome = result } ∷ h) }
     ensures notices { (z : Start) (h : List Entry) (actor : ℕ) → AreParts tables.old words.old z h
+        → MemoryStandsFor ram.old z h
         → all_outstanding z (record { actor = actor; op = op.now; outcome = result } ∷ h)
         + consumed_in result
         ≡ all_outstanding z h + forwarded_in result }
@@ -69,6 +78,7 @@ pub(crate) fn answer(
     ensures counts { (n : ℕ) → All (HasCountsAtMost n) tables.old.ends
         → All (HasCountsAtMost (n + 1)) tables.new.ends }
     ensures len { length words.new ≡ length words.old }
+    ensures size { length ram.new ≡ length ram.old }
 {
     match op {
         Op::Pq { s, op } => touch(&mut words[*s as usize], levels[*s as usize], *op),
@@ -91,7 +101,7 @@ pub(crate) fn answer(
             offset,
             store,
         } => tables.access_end(*e, *page, *offset, *store),
-        Op::Route { s } => tables.route(*s, words[*s as usize].count()),
+        Op::Route { s } => tables.route(ram, *s, words[*s as usize].count()),
         Op::EndSet { e, config } => {
             tables.configure(*e, config);
             Outcome::Fine
@@ -99,6 +109,9 @@ pub(crate) fn answer(
         Op::Hcall { number: _, args } => Outcome::Reply {
             reply: tables.set_source_config(args),
         },
+        Op::Read { e } => tables.read(ram, *e),
+        Op::Peek { addr } => peek(ram, *addr),
+        Op::Zero { addr, len } => zero(ram, *addr, *len),
         _ => unreachable!(),
     }
 }

@@ -11,6 +11,7 @@ mod answering;
 mod known;
 mod levels;
 mod machine;
+mod memory;
 #[cfg(test)]
 mod tests;
 mod views;

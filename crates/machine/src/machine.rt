@@ -15,6 +15,7 @@ use crate::answering::{answer, consumed_by, notices_of};
 use crate::levels::levels_of;
 use crate::views::{ProcessorView, QueueView, RingView, SourceView};
 use esb_pq::SourceWord;
+use guest_ram::Ram;
 use router::tables::Tables;
 use std::alloc::Global;
 use std::marker::Model;
@@ -24,11 +25,15 @@ use xv_model::entries::Entry;
 use xv_model::operations::Op;
 use xv_model::outcomes::Phase;
 
-/// The state of a board: the router's tables, a word for each source and whether it is a level
-/// source, how many entries were made, and how many notices are outstanding.
+/// The bytes of a MiB.
+const MIB: u64 = 1 << 20;
+
+/// The state of a board: the router's tables, the memory, a word for each source and whether it is a
+/// level source, how many entries were made, and how many notices are outstanding.
 #[derive(Drop)]
 pub struct Machine {
     pub(crate) tables: Tables,
+    ram: Ram,
     pub(crate) words: Vec<SourceWord>,
     levels: Vec<bool>,
     count: u64,
@@ -36,14 +41,16 @@ pub struct Machine {
 }
 
 impl Model for Machine {
-    ghost use Rattle.std.specs.Prelude.{◌≡◌, ◌≤◌, vec_len, All};
-    ghost use Rattle.router.specs.Ends.{HasCountsAtMost};
+    ghost use Rattle.std.specs.Prelude.{◌≡◌, ◌≤◌, ◌*◌, length, vec_len, All};
+    ghost use Rattle.xv_model.specs.board.Validity.{ram_size};
+    ghost use Rattle.end_queue.specs.Ends.{HasCountsAtMost};
     ghost use Rattle.machine.specs.Machine.{Held, AreLevels};
 
     ghost Value = { Held };
 
     ghost view = { λ m. record {
       tables = m.tables;
+      memory = m.ram;
       words = m.words.items;
       count = m.count;
       notices = m.notices;
@@ -52,6 +59,7 @@ impl Model for Machine {
     ghost invariant = { λ m. (vec_len m.words ≡ m.tables.board.limits.sources)
         × (vec_len m.levels ≡ m.tables.board.limits.sources)
         × AreLevels m.tables.board m.levels.items
+        × (4 * length m.ram ≡ ram_size m.tables.board)
         × (m.notices ≤ m.count) × All (HasCountsAtMost m.count) m.tables.ends };
 }
 
@@ -66,6 +74,7 @@ impl Machine {
     {
         Ok(Machine {
             tables: Tables::build(alloc, board)?,
+            ram: Ram::new(alloc, board.ram_mib as u64 * MIB)?,
             words: vec![in alloc; SourceWord::off(); board.limits.sources as usize]?,
             levels: levels_of(alloc, board)?,
             count: 0,
@@ -119,13 +128,13 @@ impl Machine {
             → StandsFor self.now z h → result ≡ queue_view z h e }
         ensures in_range { IsQueue self.now.tables.board result }
     {
-        let end = self.tables.queue(e);
+        let ends = self.tables.ends();
         QueueView {
-            config: end.config,
-            written: end.written,
-            taken: end.taken,
-            esn: end.esn,
-            ese: end.ese,
+            config: *ends.config(e),
+            written: ends.written(e),
+            taken: ends.taken(e),
+            esn: ends.esn(e),
+            ese: ends.ese(e),
         }
     }
 
@@ -182,7 +191,13 @@ impl Machine {
         ensures stands { (z : Start) (h : List AnEntry)
             → StandsFor self.old z h → StandsFor self.new z (result ∷ h) }
     {
-        let outcome = answer(&mut self.tables, &mut self.words, &self.levels, op);
+        let outcome = answer(
+            &mut self.tables,
+            &mut self.ram,
+            &mut self.words,
+            &self.levels,
+            op,
+        );
         self.count += 1;
         // A notice that is consumed was outstanding.
         self.notices = (self.notices + notices_of(&outcome)).saturating_sub(consumed_by(&outcome));

@@ -236,6 +236,51 @@ fn a_queue_and_its_views(rt: HostRuntime) -> Result<(), Fail> {
 }
 
 #[test]
+fn a_word_in_memory_and_its_reader(rt: HostRuntime) -> Result<(), Fail> {
+    let board = small_board();
+    let mut machine = Machine::build(rt.alloc(), &board)?;
+    let m = &mut machine;
+    let config = end(0, 0, 0x1000, 12);
+    step(&rt, m, &Op::EndSet { e: 0, config });
+    step(&rt, m, &target(0, 0, 0, 0x10));
+    step(&rt, m, &set(0));
+    step(&rt, m, &trigger(0));
+    assert!(rt; presented(routed(&rt, m, 0), 1, 0, true));
+    let looked = step(&rt, m, &Op::Peek { addr: 0x1000 });
+    assert!(rt; matches!(looked, Outcome::Cell { word: 0x8000_0010 }));
+    assert!(rt;
+        matches!(
+            step(&rt, m, &Op::Read { e: 0 }),
+            Outcome::Item { payload: 0x10 }
+        )
+    );
+    assert!(rt; matches!(step(&rt, m, &Op::Read { e: 0 }), Outcome::Empty));
+    assert!(rt; matches!(step(&rt, m, &Op::Read { e: 1 }), Outcome::NoQueue));
+    assert_eq!(rt; queue(&rt, m, 0).taken, 1);
+    assert!(rt;
+        matches!(
+            step(
+                &rt,
+                m,
+                &Op::Zero {
+                    addr: 0x1000,
+                    len: 4
+                }
+            ),
+            Outcome::Fine
+        )
+    );
+    assert!(rt;
+        matches!(
+            step(&rt, m, &Op::Peek { addr: 0x1000 }),
+            Outcome::Cell { word: 0 }
+        )
+    );
+    assert!(rt; matches!(step(&rt, m, &Op::Peek { addr: 0x1002 }), Outcome::BadRange));
+    Ok(())
+}
+
+#[test]
 fn the_largest_board(rt: HostRuntime) -> Result<(), Fail> {
     let board = largest_board();
     let mut machine = Machine::build(rt.alloc(), &board)?;

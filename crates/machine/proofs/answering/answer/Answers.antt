@@ -1,4 +1,4 @@
-use Rattle.std.proofs.Common.{ℕ, ◌≡◌, ◌<◌, List, Ok, slice_index_or, slice_set, subst, sym, refl, ◌∙◌, ap}
+use Rattle.std.proofs.Common.{ℕ, ◌<◌, List, ◌∷◌, Ok, slice_index_or, slice_set, subst, sym, refl, ◌∙◌, ap}
 use Rattle.xv_model.specs.declared.board.Board.{Board}
 use Rattle.xv_model.specs.declared.operations.Op.{Op}
 use Rattle.xv_model.specs.declared.operations.Op.TheVariants as op
@@ -8,10 +8,11 @@ use Rattle.xv_model.specs.board.Boards.{is_level}
 use Rattle.xv_model.specs.account.Start.{Start}
 use Rattle.xv_model.specs.account.Kinds.{access_of}
 use Rattle.esb_mmio.specs.declared.pages.SourceKind.{SourceKind}
+use Rattle.guest_ram.specs.Ram.{StandsFor as MemoryStandsFor}
 use Rattle.router.proofs.Ranges.{one_more_in_all}
 use Rattle.machine.specs.Machine.{AreParts}
 use Rattle.machine.proofs.Accesses.{kind_moves, decoded_on}
-use Rattle.machine.proofs.Stepping.{Steps, valid_word, valid_page, word_steps, end_page_steps, route_steps, quiet_steps, call_steps}
+use Rattle.machine.proofs.Stepping.{Steps, valid_word, valid_page, word_steps, end_page_steps, route_steps, read_steps, peek_steps, zero_steps, quiet_steps, call_steps}
 use Rattle.machine.proofs.answering.answer.Goals as goal
 
 word : (c : goal.After-touch) (z : Start) (h : List Entry) (actor : ℕ) → AreParts c.args.tables.now c.args.words.now z h →
@@ -77,50 +78,104 @@ call c z h actor st =
     c.set_source_config.result st c.in-Hcall.is c.requires.op
     (c.set_source_config.ensures.reply z h st.tables) (c.set_source_config.ensures.stands z h actor st.tables)
 
+read : (c : goal.After-read) (z : Start) (h : List Entry) (actor : ℕ) → AreParts c.args.tables.now c.args.words.now z h → MemoryStandsFor c.args.ram.now z h →
+    Steps c.args.tables.now c.args.words.now c.read.new.self c.args.words.now z h
+    (record { actor = actor; op = c.args.op.now; outcome = c.read.result })
+read c z h actor st words =
+    read_steps c.args.tables.now c.read.new.self c.args.words.now z h actor c.in-Read.e c.args.op.now c.read.result st c.in-Read.is
+    (c.read.ensures.outcome z h st.tables words) (c.read.ensures.stands z h actor st.tables)
+
+looked : (c : goal.After-peek) (z : Start) (h : List Entry) (actor : ℕ) → AreParts c.args.tables.now c.args.words.now z h → MemoryStandsFor c.args.ram.now z h →
+    Steps c.args.tables.now c.args.words.now c.args.tables.now c.args.words.now z h
+    (record { actor = actor; op = c.args.op.now; outcome = c.peek.result })
+looked c z h actor st words =
+    peek_steps c.args.tables.now c.args.words.now z h actor c.in-Peek.addr c.args.op.now c.peek.result st c.in-Peek.is (c.peek.ensures.outcome z h words)
+
+zeroed : (c : goal.After-zero) (z : Start) (h : List Entry) (actor : ℕ) → AreParts c.args.tables.now c.args.words.now z h → MemoryStandsFor c.args.ram.now z h →
+    Steps c.args.tables.now c.args.words.now c.args.tables.now c.args.words.now z h
+    (record { actor = actor; op = c.args.op.now; outcome = c.zero.result })
+zeroed c z h actor st words =
+    zero_steps c.args.tables.now c.args.words.now z h actor c.in-Zero.addr c.in-Zero.len c.args.op.now c.zero.result st c.in-Zero.is (c.zero.ensures.outcome z h words)
+
 pub returns-in-Pq-clause-outcome : goal.returns-in-Pq-clause-outcome
-returns-in-Pq-clause-outcome c = λ z h st. (word c z h 0 st).outcome
+returns-in-Pq-clause-outcome c = λ z h st words. (word c z h 0 st).outcome
 
 pub returns-in-Pq-clause-parts : goal.returns-in-Pq-clause-parts
-returns-in-Pq-clause-parts c = λ z h actor st. (word c z h actor st).parts
+returns-in-Pq-clause-parts c = λ z h actor st words. (word c z h actor st).parts
 
 pub returns-in-Pq-clause-notices : goal.returns-in-Pq-clause-notices
-returns-in-Pq-clause-notices c = λ z h actor st. (word c z h actor st).notices
+returns-in-Pq-clause-notices c = λ z h actor st words. (word c z h actor st).notices
 
 pub returns-in-Ok-Pq-clause-outcome : goal.returns-in-Ok-Pq-clause-outcome
-returns-in-Ok-Pq-clause-outcome c = λ z h st. (page c z h 0 st).outcome
+returns-in-Ok-Pq-clause-outcome c = λ z h st words. (page c z h 0 st).outcome
 
 pub returns-in-Ok-Pq-clause-parts : goal.returns-in-Ok-Pq-clause-parts
-returns-in-Ok-Pq-clause-parts c = λ z h actor st. (page c z h actor st).parts
+returns-in-Ok-Pq-clause-parts c = λ z h actor st words. (page c z h actor st).parts
 
 pub returns-in-Ok-Pq-clause-notices : goal.returns-in-Ok-Pq-clause-notices
-returns-in-Ok-Pq-clause-notices c = λ z h actor st. (page c z h actor st).notices
+returns-in-Ok-Pq-clause-notices c = λ z h actor st words. (page c z h actor st).notices
 
 pub returns-in-EndEsb-clause-parts : goal.returns-in-EndEsb-clause-parts
-returns-in-EndEsb-clause-parts c = λ z h actor st. (end_page c z h actor st).parts
+returns-in-EndEsb-clause-parts c = λ z h actor st words. (end_page c z h actor st).parts
 
 pub returns-in-EndEsb-clause-notices : goal.returns-in-EndEsb-clause-notices
-returns-in-EndEsb-clause-notices c = λ z h actor st. (end_page c z h actor st).notices
+returns-in-EndEsb-clause-notices c = λ z h actor st words. (end_page c z h actor st).notices
 
 pub returns-in-EndEsb-clause-counts : goal.returns-in-EndEsb-clause-counts
 returns-in-EndEsb-clause-counts c = λ n all. one_more_in_all n c.access_end.new.self.ends (c.access_end.ensures.counts n all)
 
 pub returns-in-Route-clause-outcome : goal.returns-in-Route-clause-outcome
-returns-in-Route-clause-outcome c = λ z h st. (route c z h 0 st).outcome
+returns-in-Route-clause-outcome c = λ z h st words. (route c z h 0 st).outcome
 
 pub returns-in-Route-clause-parts : goal.returns-in-Route-clause-parts
-returns-in-Route-clause-parts c = λ z h actor st. (route c z h actor st).parts
+returns-in-Route-clause-parts c = λ z h actor st words. (route c z h actor st).parts
 
 pub returns-in-Route-clause-notices : goal.returns-in-Route-clause-notices
-returns-in-Route-clause-notices c = λ z h actor st. (route c z h actor st).notices
+returns-in-Route-clause-notices c = λ z h actor st words. (route c z h actor st).notices
 
 pub returns-in-EndSet-clause-parts : goal.returns-in-EndSet-clause-parts
-returns-in-EndSet-clause-parts c = λ z h actor st. (configure c z h actor st).parts
+returns-in-EndSet-clause-parts c = λ z h actor st words. (configure c z h actor st).parts
 
 pub returns-in-EndSet-clause-counts : goal.returns-in-EndSet-clause-counts
 returns-in-EndSet-clause-counts c = λ n all. one_more_in_all n c.configure.new.self.ends (c.configure.ensures.counts n all)
 
 pub returns-in-Hcall-clause-parts : goal.returns-in-Hcall-clause-parts
-returns-in-Hcall-clause-parts c = λ z h actor st. (call c z h actor st).parts
+returns-in-Hcall-clause-parts c = λ z h actor st words. (call c z h actor st).parts
 
 pub returns-in-Hcall-clause-counts : goal.returns-in-Hcall-clause-counts
 returns-in-Hcall-clause-counts c = λ n all. one_more_in_all n c.set_source_config.new.self.ends (c.set_source_config.ensures.counts n all)
+
+pub returns-in-Read-clause-outcome : goal.returns-in-Read-clause-outcome
+returns-in-Read-clause-outcome c = λ z h st words. (read c z h 0 st words).outcome
+
+pub returns-in-Read-clause-parts : goal.returns-in-Read-clause-parts
+returns-in-Read-clause-parts c = λ z h actor st words. (read c z h actor st words).parts
+
+pub returns-in-Read-clause-notices : goal.returns-in-Read-clause-notices
+returns-in-Read-clause-notices c = λ z h actor st words. (read c z h actor st words).notices
+
+pub returns-in-Peek-clause-outcome : goal.returns-in-Peek-clause-outcome
+returns-in-Peek-clause-outcome c = λ z h st words. (looked c z h 0 st words).outcome
+
+pub returns-in-Peek-clause-parts : goal.returns-in-Peek-clause-parts
+returns-in-Peek-clause-parts c = λ z h actor st words. (looked c z h actor st words).parts
+
+pub returns-in-Peek-clause-notices : goal.returns-in-Peek-clause-notices
+returns-in-Peek-clause-notices c = λ z h actor st words. (looked c z h actor st words).notices
+
+pub returns-in-Zero-clause-outcome : goal.returns-in-Zero-clause-outcome
+returns-in-Zero-clause-outcome c = λ z h st words. (zeroed c z h 0 st words).outcome
+
+pub returns-in-Zero-clause-parts : goal.returns-in-Zero-clause-parts
+returns-in-Zero-clause-parts c = λ z h actor st words. (zeroed c z h actor st words).parts
+
+pub returns-in-Zero-clause-notices : goal.returns-in-Zero-clause-notices
+returns-in-Zero-clause-notices c = λ z h actor st words. (zeroed c z h actor st words).notices
+
+pub returns-in-Route-clause-memory : goal.returns-in-Route-clause-memory
+returns-in-Route-clause-memory c = λ z h actor words.
+    subst (λ (p : Op). MemoryStandsFor c.route.new.ram z (record { actor = actor; op = p; outcome = c.route.result } ∷ h)) (sym c.in-Route.is) (c.route.ensures.memory z h actor words)
+
+pub returns-in-Zero-clause-memory : goal.returns-in-Zero-clause-memory
+returns-in-Zero-clause-memory c = λ z h actor words.
+    subst (λ (p : Op). MemoryStandsFor c.zero.new.ram z (record { actor = actor; op = p; outcome = c.zero.result } ∷ h)) (sym c.in-Zero.is) (c.zero.ensures.memory z h actor words)
