@@ -21,4 +21,7 @@ valid-is_built b (op.EndEsb e page offset store) h = search rules
 valid-is_built b (op.Route s) h = search rules
 valid-is_built b (op.EndSet e c) h = search rules
 valid-is_built b (op.Hcall number args) h = search rules
+valid-is_built b (op.Read e) h = search rules
+valid-is_built b (op.Peek addr) h = search rules
+valid-is_built b (op.Zero addr len) h = search rules
 valid-is_built b _ h = absurd (search rules)

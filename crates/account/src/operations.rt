@@ -239,6 +239,20 @@ pub fn add_op<const CAP: usize>(text: &mut ArrayVec<u8, CAP>, op: &Op)
             text.push(b' ');
             add_arguments(text, args);
         }
+        Op::Read { e } => {
+            add(text, b"read ");
+            add_short_number(text, *e);
+        }
+        Op::Peek { addr } => {
+            add(text, b"peek ");
+            add_hex(text, *addr);
+        }
+        Op::Zero { addr, len } => {
+            add(text, b"zero ");
+            add_hex(text, *addr);
+            text.push(b' ');
+            add_hex(text, *len);
+        }
         _ => unreachable!(),
     }
 }

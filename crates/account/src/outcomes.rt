@@ -154,6 +154,17 @@ pub fn add_outcome<const CAP: usize>(text: &mut ArrayVec<u8, CAP>, outcome: &Out
         }
         Outcome::Fine => add(text, b"ok"),
         Outcome::Reply { reply } => add_reply(text, reply),
+        Outcome::Item { payload } => {
+            add(text, b"item ");
+            add_hex(text, *payload as u64);
+        }
+        Outcome::Empty => add(text, b"empty"),
+        Outcome::NoQueue => add(text, b"no-queue"),
+        Outcome::Cell { word } => {
+            add(text, b"word ");
+            add_hex(text, *word as u64);
+        }
+        Outcome::BadRange => add(text, b"bad-range"),
         _ => {}
     }
 }

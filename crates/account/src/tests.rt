@@ -436,6 +436,89 @@ fn configurations(rt: HostRuntime) {
     );
 }
 
+/// What a read that finds an entry answers.
+fn item(payload: u32) -> Outcome
+    ensures { IsWellFormed result }
+{
+    Outcome::Item { payload }
+}
+
+#[test]
+fn reads_of_queues(rt: HostRuntime) {
+    let read = Op::Read { e: 0 };
+    assert!(rt; prints(0, 0, read, item(0x10), b"0 0 read 0 -> item 0x10\n"));
+    assert!(rt; prints(1, 0, read, item(0), b"1 0 read 0 -> item 0x0\n"));
+    assert!(rt; prints(2, 0, read, Outcome::Empty, b"2 0 read 0 -> empty\n"));
+    assert!(rt; prints(3, 0, read, Outcome::NoQueue, b"3 0 read 0 -> no-queue\n"));
+    let last = Op::Read { e: 511 };
+    assert!(rt;
+        prints(
+            4,
+            15,
+            last,
+            item(0x7fffffff),
+            b"4 15 read 511 -> item 0x7fffffff\n"
+        )
+    );
+}
+
+/// Whether a look at the word at an address is printed so.
+fn prints_peek(addr: u64, outcome: Outcome, line: &[u8]) -> bool
+    requires { IsWellFormed outcome }
+{
+    prints(0, 0, Op::Peek { addr }, outcome, line)
+}
+
+#[test]
+fn words_of_memory(rt: HostRuntime) {
+    let entry = Outcome::Cell { word: 0x80000010 };
+    assert!(rt; prints_peek(0x1000, entry, b"0 0 peek 0x1000 -> word 0x80000010\n"));
+    let most = Outcome::Cell { word: 0xffffffff };
+    assert!(rt; prints_peek(0x3fffffc, most, b"0 0 peek 0x3fffffc -> word 0xffffffff\n"));
+    let nothing = Outcome::Cell { word: 0 };
+    assert!(rt; prints_peek(0, nothing, b"0 0 peek 0x0 -> word 0x0\n"));
+    assert!(rt; prints_peek(0x2, Outcome::BadRange, b"0 0 peek 0x2 -> bad-range\n"));
+}
+
+/// Whether the zeroing of some bytes is printed so.
+fn prints_zero(index: u64, addr: u64, len: u64, outcome: Outcome, line: &[u8]) -> bool
+    requires { IsWellFormed outcome }
+{
+    prints(index, 15, Op::Zero { addr, len }, outcome, line)
+}
+
+#[test]
+fn stretches_of_memory(rt: HostRuntime) {
+    assert!(rt;
+        prints_zero(
+            0,
+            0x1000,
+            0x40,
+            Outcome::Fine,
+            b"0 15 zero 0x1000 0x40 -> ok\n"
+        )
+    );
+    assert!(rt; prints_zero(1, 0, 0, Outcome::Fine, b"1 15 zero 0x0 0x0 -> ok\n"));
+    assert!(rt;
+        prints_zero(
+            2,
+            2,
+            4,
+            Outcome::BadRange,
+            b"2 15 zero 0x2 0x4 -> bad-range\n"
+        )
+    );
+    assert!(rt;
+        prints_zero(
+            18446744073709551615,
+            0xffffffffffffffff,
+            0xfffffffffffffffc,
+            Outcome::BadRange,
+            b"18446744073709551615 15 zero 0xffffffffffffffff 0xfffffffffffffffc -> bad-range\n"
+        )
+    );
+}
+
 /// The numbers from `first` to `last`.
 fn one_range(first: u32, last: u32) -> Spans
     requires { first ≤ last }

@@ -71,6 +71,9 @@ op_text (op.EndEsb e page offset store) = codes "end" ++ access_text store ++ pa
 op_text (op.Route s) = codes "route " ++ decimal s
 op_text (op.EndSet e c) = codes "endset " ++ decimal e ++ codes " " ++ config_text c
 op_text (op.Hcall number args) = codes "hcall " ++ hex number ++ codes " " ++ arguments_text args
+op_text (op.Read e) = codes "read " ++ decimal e
+op_text (op.Peek addr) = codes "peek " ++ hex addr
+op_text (op.Zero addr len) = codes "zero " ++ hex addr ++ codes " " ++ hex len
 op_text _ = []
 
 -- whether an operation is built, whatever its board, and a pair in it is one
@@ -81,4 +84,7 @@ is_built (op.EndEsb e page offset store) = true
 is_built (op.Route s) = true
 is_built (op.EndSet e c) = true
 is_built (op.Hcall number args) = true
+is_built (op.Read e) = true
+is_built (op.Peek addr) = true
+is_built (op.Zero addr len) = true
 is_built _ = false
