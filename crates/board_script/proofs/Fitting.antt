@@ -27,6 +27,7 @@ use Rattle.board_script.specs.Flags.{flags_at}
 use Rattle.board_script.specs.Work.{HasValidSteps}
 use Rattle.board_script.specs.Sources.{source_at, access_line_of, set_line_of, route_line_of, then_route_of, level_source_of, level_line_of, assert_line_of, init_by, init_line_of}
 use Rattle.board_script.specs.Pages.{page_bytes, place_of, source_page_line_of, end_page_line_of}
+use Rattle.board_script.specs.Memory.{read_line_of, peek_line_of, zero_line_of}
 use Rattle.board_script.specs.Configuring.{config_of, if_valid, endset_of, args_of, call_of, hcall_of}
 use Rattle.board_script.specs.Working.{rare_steps_by, steps_by, steps_of, work_of}
 use Rattle.board_script.specs.Header.{number_line_of, pages_line_of, range_of, range_line_of, has_room, takes_level, last_line_of, header_of}
@@ -186,6 +187,19 @@ end_page_fits b store rest =
     read_fits P (IsPlace END_PAGES) (place_of END_PAGES (rest_of rest)) _ (place_fits END_PAGES (rest_of rest)) (λ at p.
     both (nat_lt e (end_count b)) (nat_lt at.0 END_PAGES) q.below p))
 
+read_line_fits : (b : Board) (rest : List ℕ) → IfOk (read_line_of b rest) (HasValidSteps b)
+read_line_fits b rest =
+    read_fits (HasValidSteps b) (Passes 0 (end_count b)) (end_number_at b.limits.processors rest) _ (end_number_fits b.limits.processors rest) (λ e q.
+    end_fits (HasValidSteps b) (rest_of rest) (Once (op.Read e)) q.below)
+
+peek_line_fits : (b : Board) (rest : List ℕ) → IfOk (peek_line_of rest) (HasValidSteps b)
+peek_line_fits b rest = any_fits (HasValidSteps b) (number_at rest) _ (λ addr. end_fits (HasValidSteps b) (rest_of rest) (Once (op.Peek addr)) refl)
+
+zero_line_fits : (b : Board) (rest : List ℕ) → IfOk (zero_line_of rest) (HasValidSteps b)
+zero_line_fits b rest =
+    any_fits (HasValidSteps b) (number_at rest) _ (λ addr. any_fits (HasValidSteps b) (number_at (rest_of rest)) _ (λ len.
+    end_fits (HasValidSteps b) (rest_of (rest_of rest)) (Once (op.Zero addr len)) refl))
+
 valid_fits : (b : Board) (at : Misread) (o : Op) → IfOk (if_valid b at o) (HasValidSteps b)
 valid_fits b at o = choose (HasValidSteps b) (valid b o) (Ok (Once o)) (Err at) (λ v. v) tt
 
@@ -210,8 +224,10 @@ rare_steps_fits b at name rest =
     (choose P (is_word (codes "init") name) (init_line_of b at rest) _ (λ e. init_fits b at rest)
     (choose P (is_word (codes "endload") name) (end_page_line_of b false rest) _ (λ e. end_page_fits b false rest)
     (choose P (is_word (codes "endstore") name) (end_page_line_of b true rest) _ (λ e. end_page_fits b true rest)
+    (choose P (is_word (codes "peek") name) (peek_line_of rest) _ (λ e. peek_line_fits b rest)
+    (choose P (is_word (codes "zero") name) (zero_line_of rest) _ (λ e. zero_line_fits b rest)
     (choose P (is_word (codes "endset") name) (endset_of b at rest) _ (λ e. endset_fits b at rest)
-    (choose P (is_word (codes "hcall") name) (hcall_of rest) (Err at) (λ e. hcall_fits b rest) tt)))))))
+    (choose P (is_word (codes "hcall") name) (hcall_of rest) (Err at) (λ e. hcall_fits b rest) tt)))))))))
 
 steps_fits : (b : Board) (at : Misread) (name rest : List ℕ) → IfOk (steps_by b at name rest) (HasValidSteps b)
 steps_fits b at name rest =
@@ -224,7 +240,8 @@ steps_fits b at name rest =
     (choose P (is_word (codes "store") name) (source_page_line_of b true rest) _ (λ e. source_page_fits b true rest)
     (choose P (is_word (codes "set") name) (set_line_of b rest) _ (λ e. set_fits b rest)
     (choose P (is_word (codes "get") name) (access_line_of b Get rest) _ (λ e. access_fits b Get rest (λ level. refl))
-    (choose P (is_word (codes "route") name) (route_line_of b rest) (rare_steps_by b at name rest) (λ e. route_fits b rest) (rare_steps_fits b at name rest)))))))))
+    (choose P (is_word (codes "route") name) (route_line_of b rest) _ (λ e. route_fits b rest)
+    (choose P (is_word (codes "read") name) (read_line_of b rest) (rare_steps_by b at name rest) (λ e. read_line_fits b rest) (rare_steps_fits b at name rest))))))))))
 
 work_fits : (b : Board) (rest : List ℕ) → IfOk (work_of b rest) (IsWorkSaid b)
 work_fits b rest =

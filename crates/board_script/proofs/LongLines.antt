@@ -1,10 +1,9 @@
 -- Long lines are refused alike.
-use Rattle.std.proofs.Common.{ℕ, ◌≡◌, ◌<◌, ◌-◌, Bool, List, length, Option, Some, None, Err, refl, sym, ◌∙◌, ap, if◌then◌else◌}
+use Rattle.std.proofs.Common.{ℕ, ◌≡◌, ◌<◌, ◌-◌, Bool, List, length, Some, None, Err, ◌∙◌, ap, if◌then◌else◌}
 use Rattle.std.proofs.lemmas.Bool.{lt-ltb}
 use Rattle.xv_base.specs.Limits.{longest_line}
 use Rattle.xv_model.specs.declared.board.Board.{Board}
 use Rattle.board_script.specs.declared.faults.Misread.{Misread}
-use Rattle.board_script.specs.declared.faults.ScriptFault.{ScriptFault}
 use Rattle.board_script.specs.declared.stage.Stage.{Stage}
 use Rattle.board_script.specs.declared.stage.Stage.TheVariants.{Header, Work, Ended}
 use Rattle.board_script.specs.Words.{from_unprintable, skip, then_read}

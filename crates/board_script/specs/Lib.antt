@@ -7,6 +7,7 @@ pub mod Flags
 pub mod Work
 pub mod Sources
 pub mod Pages
+pub mod Memory
 pub mod Configuring
 pub mod Working
 pub mod Header

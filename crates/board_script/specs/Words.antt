@@ -66,6 +66,11 @@ name_at name rest = if is_word name (word_of rest) then Ok tt else Err (misread_
 abbrev pub done_at : List ℕ → Result (Unit {0}) Misread
 done_at rest = if is_empty rest then Ok tt else Err (misread_at rest)
 
+-- an answer, with what was put into its place where nothing is refused
+abbrev pub answer_with : {A B : Type 0} → Result (Unit {0}) B → A → Result A B
+answer_with (Ok u) x = Ok x
+answer_with (Err e) x = Err e
+
 -- goes on with what was read
 abbrev pub then_read : {A B : Type 0} → Result A Misread → (A → Result B Misread) → Result B Misread
 then_read (Ok x) next = next x

@@ -11,6 +11,7 @@ use Rattle.board_script.specs.Words.{word_of, rest_of, is_word, misread_at, then
 use Rattle.board_script.specs.Numbers.{bounded_at}
 use Rattle.board_script.specs.Sources.{access_line_of, set_line_of, route_line_of, then_route_of, level_line_of, assert_line_of, init_line_of}
 use Rattle.board_script.specs.Pages.{source_page_line_of, end_page_line_of}
+use Rattle.board_script.specs.Memory.{read_line_of, peek_line_of, zero_line_of}
 use Rattle.board_script.specs.Configuring.{endset_of, hcall_of}
 
 -- the work of a line, by a name that comes less often; an unknown name is refused there
@@ -22,8 +23,10 @@ rare_steps_by b at name rest =
     else (if is_word (codes "init") name then init_line_of b at rest
     else (if is_word (codes "endload") name then end_page_line_of b false rest
     else (if is_word (codes "endstore") name then end_page_line_of b true rest
+    else (if is_word (codes "peek") name then peek_line_of rest
+    else (if is_word (codes "zero") name then zero_line_of rest
     else (if is_word (codes "endset") name then endset_of b at rest
-    else (if is_word (codes "hcall") name then hcall_of rest else Err at)))))))
+    else (if is_word (codes "hcall") name then hcall_of rest else Err at)))))))))
 
 -- the work of a line, by the name of its operation and what stands after it
 abbrev pub steps_by : Board → Misread → List ℕ → List ℕ → Result Work Misread
@@ -36,7 +39,8 @@ steps_by b at name rest =
     else (if is_word (codes "store") name then source_page_line_of b true rest
     else (if is_word (codes "set") name then set_line_of b rest
     else (if is_word (codes "get") name then access_line_of b Get rest
-    else (if is_word (codes "route") name then route_line_of b rest else rare_steps_by b at name rest))))))))
+    else (if is_word (codes "route") name then route_line_of b rest
+    else (if is_word (codes "read") name then read_line_of b rest else rare_steps_by b at name rest)))))))))
 
 -- the work of a line, from the name of its operation on
 abbrev pub steps_of : Board → List ℕ → Result Work Misread

@@ -7,6 +7,7 @@ mod flags;
 mod header;
 pub mod laws;
 pub mod lines;
+mod memory;
 mod numbers;
 mod pages;
 pub mod parser;

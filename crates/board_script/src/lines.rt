@@ -1,6 +1,7 @@
 //! What the lines of a script say.
 
-ghost use Rattle.std.specs.Prelude.{◌≡◌};
+ghost use Rattle.std.specs.Prelude.{◌≡◌, OnErr};
+ghost use Rattle.board_script.specs.Words.{answer_with};
 ghost use Rattle.board_script.specs.Lines.{check_of, said_of, line_by};
 
 use crate::faults::Misread;
@@ -67,23 +68,27 @@ fn check(line: &[u8]) -> Result<(), Misread>
     }
 }
 
-/// What a line says at a stage.
-pub(crate) fn read(stage: Stage, board: &Board, line: &[u8]) -> Result<Said, Misread>
-    ensures { result ≡ said_of stage board.now line.now }
+/// Puts what a line says at a stage into `said`, which stays as it is where the line is refused.
+pub(crate) fn read(stage: Stage, board: &Board, line: &[u8], said: &mut Said) -> Result<(), Misread>
+    ensures value { answer_with result said.new ≡ said_of stage board.now line.now }
+    ensures unchanged { OnErr result (said.new ≡ said.old) }
 {
     if let Stage::Ended = stage {
-        return Ok(Said::Nothing);
+        *said = Said::Nothing;
+        return Ok(());
     }
     check(line)?;
     let mut words = Words::new(line);
     if words.says_nothing() {
-        return Ok(Said::Nothing);
+        *said = Said::Nothing;
+        return Ok(());
     }
     match stage {
-        Stage::Header { turn } => header_line(turn, board, &mut words),
-        Stage::Work => work_line(board, &mut words),
-        Stage::Ended => Ok(Said::Nothing),
+        Stage::Header { turn } => *said = header_line(turn, board, &mut words)?,
+        Stage::Work => work_line(board, &mut words, said)?,
+        Stage::Ended => *said = Said::Nothing,
     }
+    Ok(())
 }
 
 /// What a line says to who runs the script, on the board that is read so far.

@@ -21,7 +21,8 @@ fn decimal(word: &[u8]) -> Option<u64>
             return None;
         }
         let digit = (*b - b'0') as u64;
-        if value > (u64::MAX - digit) / 10 {
+        // Only a number near 2 ^ 64 needs the exact test, which divides.
+        if value >= u64::MAX / 10 && value > (u64::MAX - digit) / 10 {
             return None;
         }
         value = 10 * value + digit;
@@ -57,7 +58,7 @@ fn hexadecimal(word: &[u8]) -> Option<u64>
     for b in word {
         match digit(*b) {
             Some(digit) => {
-                if value > (u64::MAX - digit) / 16 {
+                if value > u64::MAX / 16 {
                     return None;
                 }
                 value = 16 * value + digit;

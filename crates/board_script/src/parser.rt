@@ -1,6 +1,6 @@
 //! The parser of a script, which is fed a line at a time.
 
-ghost use Rattle.std.specs.Prelude.{◌≡◌, ◌<◌, ℕ, List, length, false, Err, IfOk};
+ghost use Rattle.std.specs.Prelude.{◌≡◌, ◌<◌, ℕ, List, length, false, Err, OnOk, OnErr};
 ghost use Rattle.xv_base.specs.Limits.{longest_line};
 ghost use Rattle.xv_model.specs.board.Boards.{IsBoard};
 ghost use Rattle.board_script.specs.Stage.{first_board, IsOpen};
@@ -67,6 +67,7 @@ fn refusal(line: u32) -> ScriptFault
 }
 
 impl Parser {
+    ghost use Rattle.board_script.specs.Words.{answer_with};
     ghost use Rattle.board_script.specs.Lines.{IsSaidAt};
     ghost use Rattle.board_script.specs.Parser.{new_parsing, read_of, fed, parsing_after, finished, parsing_at_end};
 
@@ -84,20 +85,22 @@ impl Parser {
         }
     }
 
-    /// Reads one line, without its newline. A line that is refused is a fault, which is sticky.
-    pub fn read(&mut self, line: &[u8]) -> Result<Said, ScriptFault>
-        ensures value { result ≡ read_of self.old line.now }
+    /// Reads one line, without its newline, and puts what it says into `said`, as that is too large to be
+    /// copied from call to call. A line that is refused is a fault, which is sticky, and leaves `said` as it is.
+    pub fn read(&mut self, line: &[u8], said: &mut Said) -> Result<(), ScriptFault>
+        ensures value { answer_with result said.new ≡ read_of self.old line.now }
         ensures after { self.new ≡ parsing_after self.old line.now }
-        ensures fits { IfOk result (λ said. IsSaidAt self.old.stage self.old.board said) }
+        ensures fits { OnOk result (IsSaidAt self.old.stage self.old.board said.new) }
+        ensures unchanged { OnErr result (said.new ≡ said.old) }
     {
         if let Some(fault) = self.fault {
             return Err(fault);
         }
         self.lines = self.lines.saturating_add(1);
-        match read(self.stage, &self.board, line) {
-            Ok(said) => {
-                advance(&mut self.stage, &mut self.board, &said);
-                Ok(said)
+        match read(self.stage, &self.board, line, said) {
+            Ok(()) => {
+                advance(&mut self.stage, &mut self.board, said);
+                Ok(())
             }
             Err(_) => {
                 let fault = refusal(self.lines);
@@ -137,7 +140,8 @@ impl Parser {
         ensures value { result ≡ fed self.old line.now }
         ensures after { self.new ≡ parsing_after self.old line.now }
     {
-        let said = self.read(line)?;
+        let mut said = Said::Nothing;
+        self.read(line, &mut said)?;
         Ok(whole_line(&self.board, said))
     }
 

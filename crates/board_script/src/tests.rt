@@ -1,6 +1,7 @@
 //! Scripts, spellings and refusals, by what the lines are about.
 
 mod configuring;
+mod memory;
 mod pages;
 mod ranges;
 mod scripts;
@@ -8,7 +9,7 @@ mod sources;
 mod spellings;
 
 use crate::faults::ScriptFault;
-use crate::lines::{Line, read};
+use crate::lines::{Line, Said, read};
 use crate::parser::Parser;
 use crate::stage::Stage;
 use crate::work::Work;
@@ -90,7 +91,7 @@ pub fn assert_read(rt: &impl Abort, lines: &[&[u8]], good: bool) {
 
 /// Where a line is refused at a stage on a board, from byte 1 on; 0 where it is read.
 pub fn place_at(stage: Stage, board: &Board, line: &[u8]) -> usize {
-    match read(stage, board, line) {
+    match read(stage, board, line, &mut Said::Nothing) {
         Ok(_) => 0,
         Err(misread) => misread.byte(line),
     }

@@ -1,11 +1,13 @@
 //! Lines after the header.
 
-ghost use Rattle.std.specs.Prelude.{◌≡◌};
-ghost use Rattle.board_script.specs.Working.{rare_steps_by, steps_by, steps_of, work_of};
+ghost use Rattle.std.specs.Prelude.{◌≡◌, OnErr};
+ghost use Rattle.board_script.specs.Words.{answer_with};
+ghost use Rattle.board_script.specs.Working.{rare_steps_by, steps_by, work_of};
 
 use crate::configuring::{endset, hcall};
 use crate::faults::Misread;
 use crate::lines::Said;
+use crate::memory::{peek_line, read_line, zero_line};
 use crate::numbers::bounded;
 use crate::pages::{end_page_line, source_page_line};
 use crate::sources::{
@@ -42,6 +44,12 @@ fn named_rarely(
     }
     if same(name, b"endstore") {
         return end_page_line(board, true, words);
+    }
+    if same(name, b"peek") {
+        return peek_line(words);
+    }
+    if same(name, b"zero") {
+        return zero_line(words);
     }
     if same(name, b"endset") {
         return endset(board, here, words);
@@ -84,29 +92,28 @@ fn named(board: &Board, here: Misread, name: &[u8], words: &mut Words) -> Result
     if same(name, b"route") {
         return route_line(board, words);
     }
+    if same(name, b"read") {
+        return read_line(board, words);
+    }
     named_rarely(board, here, name, words)
 }
 
-/// The work of a line, from the name of its operation on.
-fn steps(board: &Board, words: &mut Words) -> Result<Work, Misread>
-    ensures { result ≡ steps_of board.now words.old }
-{
-    let here = words.here();
-    let name = words.next();
-    named(board, here, name, words)
-}
-
-/// A line after the header: the end of the script, or an actor and its work.
-pub fn work_line(board: &Board, words: &mut Words) -> Result<Said, Misread>
-    ensures { result ≡ work_of board.now words.old }
+/// Puts what a line after the header says into `said`: the end of the script, or an actor and its work.
+pub fn work_line(board: &Board, words: &mut Words, said: &mut Said) -> Result<(), Misread>
+    ensures value { answer_with result said.new ≡ work_of board.now words.old }
+    ensures unchanged { OnErr result (said.new ≡ said.old) }
 {
     let here = words.here();
     let word = words.next();
     if same(word, b"end") {
         words.done()?;
-        return Ok(Said::End);
+        *said = Said::End;
+        return Ok(());
     }
     let actor = bounded(here, word, 0, board.limits.actors)?;
-    let work = steps(board, words)?;
-    Ok(Said::Work { actor, work })
+    let here = words.here();
+    let name = words.next();
+    let work = named(board, here, name, words)?;
+    *said = Said::Work { actor, work };
+    Ok(())
 }

@@ -1,4 +1,4 @@
-use Rattle.std.proofs.Common.{◌≡◌, ◌&&◌, ◌∙◌}
+use Rattle.std.proofs.Common.{◌&&◌, ◌∙◌}
 use Rattle.board_script.specs.Words.{may_stand}
 use Rattle.xv_base.proofs.Eights.{all_of_eight}
 use Rattle.board_script.proofs.words.are_printable.Goals as goal
