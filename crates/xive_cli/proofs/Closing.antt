@@ -14,6 +14,7 @@ use Rattle.xv_model.specs.declared.entries.Entry.{Entry}
 use Rattle.xv_model.specs.account.Start.{start}
 use Rattle.xv_model.proofs.OneAccount.{one_account}
 use Rattle.xv_model.proofs.TriggerLaws.{numbered_in_order, each_accounted, comes_again}
+use Rattle.xv_model.proofs.QueueLaws.{each_reads_next, each_reads_as_written}
 use Rattle.xv_model.proofs.RouteLaws.{routed_in_order, once_forwarded, each_enters_once}
 use Rattle.account.specs.Account.{report_text, account_text}
 use Rattle.account.specs.text.Refusal.{too_long_line}
@@ -188,6 +189,8 @@ account_written a v t t' n meets r = record {
   routed_in_order = routed_in_order r.board r.account r.ran.1;
   once_forwarded = once_forwarded r.board r.account r.ran.1;
   enter_once = each_enters_once r.board r.account r.ran.1;
+  reads_next = each_reads_next r.board r.account r.ran.1;
+  reads_as_written = each_reads_as_written r.board r.account r.ran.1;
   written = appended t t' (account_text r.board r.account) n.gathered r.all r.tells;
 }
 

@@ -1,16 +1,14 @@
 -- One more entry of a work line.
-use Rattle.std.proofs.Common.{ℕ, ◌≡◌, ◌<◌, ◌≤◌, ◌+◌, ◌*◌, List, ◌∷◌, ◌++◌, Option, Some, true, refl, sym, ◌∙◌, ap, subst, arith}
+use Rattle.std.proofs.Common.{ℕ, ◌≡◌, ◌<◌, ◌≤◌, List, ◌∷◌, ◌++◌, Option, Some, true, refl, sym, ◌∙◌, ap, subst, arith}
 use Rattle.xv_model.specs.declared.board.Board.{Board}
 use Rattle.xv_model.specs.declared.operations.Op.{Op}
 use Rattle.xv_model.specs.declared.outcomes.Outcome.{Outcome}
 use Rattle.xv_model.specs.declared.entries.Entry.{Entry}
-use Rattle.xv_model.specs.declared.messages.Message.{Message}
 use Rattle.xv_model.specs.account.Start.{Start}
-use Rattle.xv_model.specs.account.Burden.{burden, weight}
+use Rattle.xv_model.specs.account.Burden.{burden}
 use Rattle.xv_model.specs.account.Index.{next_index}
 use Rattle.xv_model.specs.account.Legal.{legal}
 use Rattle.xv_model.specs.board.Validity.{valid}
-use Rattle.xv_model.specs.source.Notices.{all_outstanding}
 use Rattle.account.specs.text.Entry.{entry_line}
 use Rattle.machine.proofs.Burdens.{burden_of-is}
 use Rattle.machine.specs.Machine.{Held, StandsFor, burden_of}

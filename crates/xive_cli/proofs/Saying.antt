@@ -1,5 +1,5 @@
 -- What the next line says.
-use Rattle.std.proofs.Common.{ℕ, ◌≡◌, ◌<◌, ◌≤◌, ◌+◌, IsFalse, false, List, [], length, Option, Some, None, Ok, Err, refl, sym, ◌∙◌, ap, subst, rules, IsNone}
+use Rattle.std.proofs.Common.{ℕ, ◌≡◌, ◌<◌, ◌≤◌, ◌+◌, IsFalse, false, List, [], length, Option, Some, None, Ok, Err, ◌∙◌, ap, subst, rules}
 use Rattle.xv_io.specs.Reader.{GivesLine, GivesWholeLine, HasNoLine, line_length}
 use Rattle.xv_io.proofs.Places.{none_whole}
 use Rattle.xv_base.specs.Limits.{byte_limit}
@@ -81,9 +81,6 @@ same_place a b r p l f = search rules
 
 pub waits : (a : Unread) → IsFalse a.reader.ended → line_length a.reader.ahead ≡ length a.reader.ahead → length a.reader.ahead ≤ 256 → a.reader.given + length a.reader.ahead < byte_limit → Waits a
 waits a ended none short below = record { ended = ended; whole = none_whole a.reader none short; short = short; below = below }
-
-pub none_is : {A : Type 0} (o : Option A) → o ≡ None → IsNone o
-none_is o e = subst (λ v. IsNone v) (sym e) refl
 
 goes_by_from : (a u b : Unread) (it : Said) → GoesTo a u → u.parser ≡ a.parser → u.reader.given ≡ a.reader.given → GoesBy u it b → GoesBy a it b
 goes_by_from a u b it goes p given by = record {

@@ -7,7 +7,7 @@ use Rattle.xv_io.specs.Reader.{Meets, whole_left}
 use Rattle.board_script.specs.declared.lines.Said.{Said}
 use Rattle.board_script.specs.declared.lines.Said.TheVariants as said
 use Rattle.board_script.specs.declared.stage.Stage.{Stage}
-use Rattle.board_script.specs.declared.stage.Stage.TheVariants.{Header, Ended}
+use Rattle.board_script.specs.declared.stage.Stage.TheVariants.{Header}
 use Rattle.board_script.specs.Lines.{IsSaidAt}
 use Rattle.board_script.specs.Stage.{stage_after, board_after}
 use Rattle.board_script.specs.Script.{Script, Accepted, Refused as Rejected, TooLong as Exceeds, WorkLine, so_far, work_with}

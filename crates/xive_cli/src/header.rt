@@ -34,8 +34,10 @@ pub fn read_header<S: Source, K: Sink>(
     ensures source_count { S.faults input.old.source.now ≤ S.faults input.new.source.now }
     ensures sink_count { K.faults output.old.sink.now ≤ K.faults output.new.sink.now }
 {
+    let mut said = Said::Nothing;
     'lines: loop {
-        match read_line(input, output)? {
+        read_line(input, output, &mut said)?;
+        match said {
             Said::Go => return Ok(()),
             Said::End => unreachable!(),
             Said::Work { .. } => unreachable!(),

@@ -1,6 +1,6 @@
 //! The lines of an input: what the next one says, and when the source is asked for more.
 
-ghost use Rattle.std.specs.Prelude.{◌≡◌, ◌≤◌, [], IfOk, IfErr, OnOk, IfSome, IsNone};
+ghost use Rattle.std.specs.Prelude.{◌≡◌, ◌≤◌, [], IfOk, IfErr, OnOk, IsTrue, IsFalse};
 ghost use Rattle.xive_cli.specs.Input.{unread};
 ghost use Rattle.xive_cli.specs.Output.{told, Tells};
 ghost use Rattle.board_script.specs.Stage.{IsOpen};
@@ -12,27 +12,31 @@ use crate::stop::Stop;
 use board_script::lines::Said;
 use xv_io::{Next, Sink, Source};
 
-/// Finds in what is read ahead what the next line says; none where more has to be read first.
-fn next_said<S: Source>(input: &mut Input<'_, S>) -> Result<Option<Said>, Stop>
+/// Finds in what is read ahead what the next line says; `false` where more has to be read first.
+fn next_said<S: Source>(input: &mut Input<'_, S>, said: &mut Said) -> Result<bool, Stop>
     requires { IsOpen input.old.parser.stage }
     ensures source { input.new.source.ghost_name ≡ input.old.source.ghost_name }
     ensures stays { input.new.source.now ≡ input.old.source.now }
-    ensures says { IfOk result (λ said. IfSome said (λ it.
-        Says (unread input.old) it (unread input.new))) }
-    ensures waits { IfOk result (λ said. IsNone said →
+    ensures says { IfOk result (λ is_said. IsTrue is_said →
+        Says (unread input.old) said.new (unread input.new)) }
+    ensures waits { IfOk result (λ is_said. IsFalse is_said →
         (unread input.new ≡ unread input.old) × Waits (unread input.old)) }
     ensures stop { IfErr result (λ stop.
         CannotGoOn stop (unread input.old) (unread input.new)) }
 {
     match input.reader.next() {
-        Next::Line => Ok(Some(input.parser.read(input.reader.line())?)),
+        Next::Line => {
+            input.parser.read(input.reader.line(), said)?;
+            Ok(true)
+        }
         Next::Long => Err(Stop::Refused(input.parser.refuse_long())),
         Next::TooMany => Err(Stop::TooLong),
         Next::End => {
             input.parser.finish()?;
-            Ok(Some(Said::End))
+            *said = Said::End;
+            Ok(true)
         }
-        Next::More => Ok(None),
+        Next::More => Ok(false),
     }
 }
 
@@ -71,25 +75,25 @@ fn read_more<S: Source, K: Sink>(
     fill(input, &*output)
 }
 
-/// Reads what the next line says. All that is gathered is written before the source is asked for more.
+/// Reads what the next line says into `said`. All that is gathered is written before the source is asked for
+/// more.
 pub fn read_line<S: Source, K: Sink>(
     input: &mut Input<'_, S>,
     output: &mut Output<'_, K>,
-) -> Result<Said, Stop>
+    said: &mut Said,
+) -> Result<(), Stop>
     requires { IsOpen input.old.parser.stage }
     ensures source { input.new.source.ghost_name ≡ input.old.source.ghost_name }
     ensures sink { output.new.sink.ghost_name ≡ output.old.sink.ghost_name }
-    ensures says { IfOk result (λ said. Says (unread input.old) said (unread input.new)) }
+    ensures says { OnOk result (Says (unread input.old) said.new (unread input.new)) }
     ensures tells { OnOk result (Tells (told output.old) [] (told output.new)) }
     ensures stop { IfErr result (λ stop. StopsReading stop
         (unread input.old) (told output.old) (unread input.new) (told output.new)) }
     ensures source_count { S.faults input.old.source.now ≤ S.faults input.new.source.now }
     ensures sink_count { K.faults output.old.sink.now ≤ K.faults output.new.sink.now }
 {
-    loop {
-        match next_said(input)? {
-            Some(said) => return Ok(said),
-            None => read_more(input, output)?,
-        }
+    while !next_said(input, said)? {
+        read_more(input, output)?;
     }
+    Ok(())
 }

@@ -40,8 +40,10 @@ pub fn run_work<S: Source, K: Sink>(
     ensures sink_count { K.faults output.old.sink.now ≤ K.faults output.new.sink.now }
 {
     put_header(output, machine.board())?;
+    let mut said = Said::Nothing;
     'lines: loop {
-        match read_line(input, output)? {
+        read_line(input, output, &mut said)?;
+        match said {
             Said::Work { actor, work } => run_line(machine, output, actor, work)?,
             Said::End => return Ok(()),
             Said::Nothing => {}

@@ -12,6 +12,7 @@ use Rattle.xv_model.specs.account.Legal.{IsLegal}
 use Rattle.xv_model.specs.account.Scripts.{Follows}
 use Rattle.xv_model.specs.laws.Triggers.{AreNumbered, AreAccounted, ComeAgain}
 use Rattle.xv_model.specs.laws.Entering.{RoutesAreNumbered, RoutesAreForwarded, EntersOnce}
+use Rattle.xv_model.specs.laws.Queues.{ReadsNext, ReadsAsWritten}
 use Rattle.account.specs.Account.{header_text, entries_text, account_text}
 use Rattle.account.specs.text.Refusal.{refusal_line, too_long_line}
 use Rattle.board_script.specs.declared.faults.ScriptFault.{ScriptFault}
@@ -47,7 +48,7 @@ status_of (Accepted b work) = status.Done
 status_of (Refused fault so_far) = status.Refused
 status_of (TooLong so_far) = status.TooLong
 
--- the known bytes are a script of a board and work lines, and what was appended is the text of that board and of an account that follows the lines and is legal from the board's start record; the forwards, triggers, coalesced triggers and routes of this account, and what these write, are as the laws say
+-- the known bytes are a script of a board and work lines, and what was appended is the text of that board and of an account that follows the lines and is legal from the board's start record; the forwards, triggers, coalesced triggers and routes of this account, what these write, and what is read of it, are as the laws say
 pub record WritesAccount (bytes held held' : Option (List ℕ)) : Type 0 where
   pub board : Board
   pub work : List WorkLine
@@ -61,6 +62,8 @@ pub record WritesAccount (bytes held held' : Option (List ℕ)) : Type 0 where
   pub routed_in_order : RoutesAreNumbered board account
   pub once_forwarded : RoutesAreForwarded board account
   pub enter_once : EntersOnce board account
+  pub reads_next : ReadsNext board account
+  pub reads_as_written : ReadsAsWritten board account
   pub written : Appends held held' (account_text board account)
 
 -- a line of the known bytes is refused, and what was appended is what the lines before it give, and the refusal

@@ -17,7 +17,7 @@ returns-in_err-read_line-clause-stop g c =
 pub returns-in-Go-clause-goes : goal.returns-in-Go-clause-goes
 returns-in-Go-clause-goes g c =
     let i = c.lines.invariant in
-    let l = header_line (unread c.lines.input) (unread c.read_line.new.input) c.in_ok-read_line.field-0 i.header (c.in_ok-read_line.ensures {u = tt}).says in
+    let l = header_line (unread c.lines.input) (unread c.read_line.new.input) c.read_line.new.said i.header (c.in_ok-read_line.ensures {u = tt}).says in
     goes_further (unread c.args.input.now) (unread c.lines.input) (unread c.read_line.new.input) [] [] [] i.goes l.goes
 
 pub returns-in-Go-clause-tells : goal.returns-in-Go-clause-tells
@@ -27,10 +27,10 @@ pub lines-preserved : goal.lines-preserved
 lines-preserved g c =
     let i = c.lines.invariant in
     let e = c.in_ok-read_line.ensures {u = tt} in
-    let l = header_line (unread c.lines.input) (unread c.read_line.new.input) c.in_ok-read_line.field-0 i.header e.says in
+    let l = header_line (unread c.lines.input) (unread c.read_line.new.input) c.read_line.new.said i.header e.says in
     record {
       goes = goes_further (unread c.args.input.now) (unread c.lines.input) (unread c.read_line.new.input) [] [] [] i.goes l.goes;
-      header = header_goes_on c.in_ok-read_line.field-0 c.read_line.new.input.parser.stage c.in_default.not-Go l.stage;
+      header = header_goes_on c.read_line.new.said c.read_line.new.input.parser.stage c.in_default.not-Go l.stage;
       tells = tells_both (told c.args.output.now) (told c.lines.output) (told c.read_line.new.output) [] [] i.tells e.tells;
       source = c.read_line.ensures.source ∙ i.source;
       sink = c.read_line.ensures.sink ∙ i.sink;

@@ -6,8 +6,8 @@ use Rattle.board_script.specs.Stage.{IsOpen}
 use Rattle.xive_cli.specs.Reading.{GoesTo}
 use Rattle.xive_cli.proofs.reading.read_line.Given as goal
 
-abbrev pub invariant-loop-said : goal.invariant-loop-said
-invariant-loop-said g l = record {
+abbrev pub invariant-loop-input : goal.invariant-loop-input
+invariant-loop-input g l = record {
   goes : GoesTo (unread l.fn.input) (unread l.input);
   open_yet : IsOpen l.input.parser.stage;
   parser : l.input.parser ≡ l.fn.input.parser;
@@ -19,5 +19,5 @@ invariant-loop-said g l = record {
   sink_count : g.K.Sink.faults l.fn.output.sink.now ≤ g.K.Sink.faults l.output.sink.now;
 }
 
-abbrev pub decreases-loop-said : goal.decreases-loop-said
-decreases-loop-said g l = if l.input.reader.ended then 0 else 1 + (longest_line + 1 - length l.input.reader.ahead)
+abbrev pub decreases-loop-input : goal.decreases-loop-input
+decreases-loop-input g l = if l.input.reader.ended then 0 else 1 + (longest_line + 1 - length l.input.reader.ahead)

@@ -40,19 +40,19 @@ lines-init g c =
       sink_count = c.put_header.ensures.count;
     }
 
-pub returns-in_err-actor-clause-stop : goal.returns-in_err-actor-clause-stop
-returns-in_err-actor-clause-stop g c =
+pub returns-in_err-read_line-clause-stop : goal.returns-in_err-read_line-clause-stop
+returns-in_err-read_line-clause-stop g c =
     let i = c.lines.invariant in
-    let stop = c.in_err-actor.field-0.0 in
+    let stop = c.in_err-read_line.field-0.0 in
     let b = c.args.input.now.parser.board in
-    at_stop c.from_residual-in_err-actor.result _ stop c.from_residual-in_err-actor.ensures.1
+    at_stop c.from_residual-in_err-read_line.result _ stop c.from_residual-in_err-read_line.ensures.1
     (work_stops stop b (unread c.args.input.now) (unread c.lines.input) (unread c.read_line.new.input) c.lines.machine (told c.args.output.now) (told c.lines.output) (told c.read_line.new.output)
-    (whole_at c.lines.input.parser b i.stage i.board) i.source_count i.sink_count i.runs (c.in_err-actor.ensures {u = tt}).stop)
+    (whole_at c.lines.input.parser b i.stage i.board) i.source_count i.sink_count i.runs (c.in_err-read_line.ensures {u = tt}).stop)
 
-pub lines-preserved-in-Continue-branch-4 : goal.lines-preserved-in-Continue-branch-4
-lines-preserved-in-Continue-branch-4 g c =
+pub lines-preserved-in-Continue-branch-3 : goal.lines-preserved-in-Continue-branch-3
+lines-preserved-in-Continue-branch-3 g c =
     let i = c.lines.invariant in
-    let e = c.in_ok-actor.ensures {u = tt} in
+    let e = c.in_ok-read_line.ensures {u = tt} in
     let r = c.in_ok-run_line-in-Work.ensures {u = tt} in
     let u = unread c.lines.input in
     let v = unread c.read_line.new.input in
@@ -74,7 +74,7 @@ lines-preserved-in-Continue-branch-4 g c =
 pub returns-in_err-run_line-in-Work-clause-stop : goal.returns-in_err-run_line-in-Work-clause-stop
 returns-in_err-run_line-in-Work-clause-stop g c =
     let i = c.lines.invariant in
-    let e = c.in_ok-actor.ensures {u = tt} in
+    let e = c.in_ok-read_line.ensures {u = tt} in
     let u = unread c.lines.input in
     let v = unread c.read_line.new.input in
     let b = c.args.input.now.parser.board in
@@ -90,7 +90,7 @@ returns-in_err-run_line-in-Work-clause-stop g c =
 pub returns-in-End-clause-done : goal.returns-in-End-clause-done
 returns-in-End-clause-done g c =
     let i = c.lines.invariant in
-    let e = c.in_ok-actor.ensures {u = tt} in
+    let e = c.in_ok-read_line.ensures {u = tt} in
     let u = unread c.lines.input in
     let v = unread c.read_line.new.input in
     let says = subst (λ it. Says u it v) c.in-End.is e.says in
@@ -99,7 +99,7 @@ returns-in-End-clause-done g c =
 pub lines-preserved : goal.lines-preserved
 lines-preserved g c =
     let i = c.lines.invariant in
-    let e = c.in_ok-actor.ensures {u = tt} in
+    let e = c.in_ok-read_line.ensures {u = tt} in
     let u = unread c.lines.input in
     let v = unread c.read_line.new.input in
     let says = subst (λ it. Says u it v) c.in-Nothing.is e.says in
