@@ -1,0 +1,553 @@
+#!/usr/bin/env python3
+"""Writes a random script that reaches far: queues that wrap, readers that lag, edges of memory, lines that are wrong.
+
+    fuzz/generate.py SEED       the script of a seed, always the same one
+    fuzz/generate.py deep       one long script: a queue of 2 MiB wraps, and is read across the wrap
+
+A script is given to the model while it is made, so that the generator knows pairs and places; nothing else comes from
+the model. A scene makes a whole script; what one line may be is in `any_line`.
+"""
+import random
+import sys
+
+from model import Refused, Run
+
+TOP = 1 << 64
+PAYLOADS = (0, 1, 0x10, 0x7f, 0x80, 0xff, 0x100, 0xff00, 0x10000, 0x1020304, 0x7f000000, 0x40000000, 0x7ffffffe,
+            0x7fffffff, 0x80000000, 0x80000001, 0xffffffff, 0x100000000, 0x1ffffffff, 0xdeadbeef12345678, TOP - 1)
+COUNTS = (1023, 1024, 1025, 1030, 1100, 1600, 2047, 2048, 2049, 2060, 2500, 3000, 3080)
+LAGS = (0, 0, 0, 1, 2, 5, 40, 511, 1022, 1023, 1023, 1024, 1024, 1025, 1026, 1500, 2047, 2048, 2049, 2050, 2600)
+ODD_BYTES = "\t\r\x00\x7f\x80\xff #"
+ODD_WORDS = """18446744073709551615 18446744073709551616 99999999999999999999 000000000000000000001
+    00000000000000000001 0x 0X 0x00000000000000001 0xffffffffffffffff 0x10000000000000000 -1 +1 1. 1_0 0b1 1x 0xg x1
+    - -- v e vqnbe qv vv vqs 00 01 11 000 2 3 4 7 8 9 12 13 16 21 24 0xff 0x100 255 256 0xffff 0x10000 65536 0xffffffff
+    0x100000000 level end go # 0# trigger""".split()
+ODD_LINES = """start; end 0; END; end now; go; board 1; sources 1; unclaimed 0 0; level 0 0; unconnected 0 0; 0; 0 end
+    0 go; 0 take 0; 0 push 0 0; 0 cppr 0 4; 0 ack 0; 0 sync 0; 0 hcall 0x3b8 1 0 0 0x1000 12; 0 hcall 0x3a8 0 0 0 0 0
+    0 hcall 0x3ac 0 0 0 0; 0 hcall 0x3ac 0 0 0 0 0 0; 0 hcall 0x300003ac 0 0 0 0 0; 0 Read 0; 0 read; 0 read 0 0
+    0 peek; 0 peek 0 0; 0 zero 0; 0 zero 0 0 0; 0 reads 0; 0 peak 0; read 0; peek 0; zero 0 4; 0 read 0x; 0 peek -4
+    0 zero 0 -4; 0 peek 18446744073709551616; 0 zero 0 0x10000000000000000; 0 read 4294967296
+    0 endset 0 vqe 0 0 0 12 7 0; 0 endset 0 vu 0 0 0 0 0 0; 0 endset 0 vs 0 0 0 0 0 0; 0 endset 0 v 0 0 0 0 7 0
+    0 endset 0 v 0 0 0 0 0 1; 0 endset 0 q 0 0 0 12 0 0; 0 endset 0 v 0 0 0x1000 0 0 0; 0 endset 0 v 0 0 0 12 0 0
+    0 endset 0 - 0 1 0 0 0 0; 0 endset 0 - 0 0 0x1000 0 0 0; 0 endset 0 vq 0 0 0 4294967308 0 0; 0 raise 0; 0 lower 0
+    0 endset 0 v 0 8 0 0 0 0; 0 assert 0; 0 init 0 1; 0 load 0 1 0; 0 endload 0 2 0; 0 peek 000000000000000000000"""
+ODD_LINES = [line.strip() for line in ODD_LINES.replace("\n", ";").split(";")]
+
+
+class Script:
+    def __init__(self, seed):
+        self.random = random.Random(seed)
+        self.lines = []
+        self.run = Run()
+        self.broken = False  # a line was refused
+        self.plain = False   # spell everything as one would write it
+
+    # -- spelling
+
+    def spelled(self, n):
+        kind = 0 if self.plain or n >= TOP else self.random.randrange(24)
+        if kind < 12:
+            return str(n)
+        if kind < 19:
+            return hex(n)
+        if kind == 19:
+            return "0X" + format(n, "X")
+        if kind == 20:
+            return "0x" + hex(n)[2:].zfill(self.random.randrange(1, 17))
+        if kind == 21:
+            return "0x" + "".join(self.random.choice((c, c.upper())) for c in hex(n)[2:])
+        return str(n).zfill(20 if kind == 22 else self.random.randrange(1, 21))
+
+    def feed(self, line):
+        """One line as bytes. Once a line is refused, the model gets no more."""
+        self.lines.append(line)
+        if not self.broken:
+            try:
+                self.run.feed(line)
+            except Refused:
+                self.broken = True
+            self.run.out.clear()
+
+    def say(self, *words):
+        """A line of words and numbers."""
+        texts = [word if isinstance(word, str) else self.spelled(word) for word in words]
+        line = " ".join(texts)
+        if not self.plain and self.random.randrange(12) == 0:
+            line = " " * self.random.randrange(3)
+            line += "".join(text + " " * self.random.choice((1, 1, 2, 5)) for text in texts)
+            if self.random.randrange(8) == 0:
+                line = line.ljust(256)
+            elif self.random.randrange(2):
+                line = line.rstrip(" ")
+        self.feed(line.encode("latin-1"))
+
+    def work(self, *words):
+        self.say(self.random.randrange(self.actors), *words)
+
+    def remark(self):
+        pick = self.random
+        some = bytes(pick.randrange(0x20, 0x7f) for _ in range(pick.randrange(60)))
+        self.feed(pick.choice((b"", b" " * pick.choice((1, 7, 256)), b"#" * pick.choice((1, 80, 256)), b" # " + some)))
+
+    # -- the board
+
+    def header(self, fewest_mib=0):
+        pick = self.random
+        sources = pick.choice((1, 2, 2, 3, 4))
+        mib = pick.choice((0,) * 2 + (1,) * 12 + (2,) * 8 + (3, 16, 17, 64))
+        self.say("board", 1)
+        self.say("sources", sources)
+        self.say("processors", pick.choice((1, 1, 2)))
+        self.say("threads", pick.choice((1, 2)))
+        self.say("ram", max(fewest_mib, mib))
+        self.say("actors", pick.choice((1, 2, 3)))
+        self.say("esb", pick.choice((1, 2)), pick.choice((0, 1)))
+        for name, chances in (("level", (0, 0, 1, 1, 2)), ("unclaimed", (0, 0, 0, 0, 0, 1))):
+            for _ in range(pick.choice(chances)):
+                first = pick.randrange(sources)
+                self.say(name, first, pick.randrange(first, sources))
+        self.say("go")
+        self.learn()
+
+    def learn(self):
+        """What the board is that the header makes."""
+        pick = self.random
+        self.machine = self.run.machine
+        self.count = len(self.machine.sources)
+        self.processors = self.machine.processors
+        self.actors = self.machine.counts["actors"]
+        self.size = self.machine.memory.size
+        self.ends = range(len(self.machine.ends))
+        self.few = pick.sample(self.ends, pick.choice((1, 2, 2, 3)))  # the ENDs that are used most
+        self.home = pick.randrange(max(1, self.size >> 12)) << 12  # where most queues are
+
+    # -- what stands where
+
+    def source(self):
+        return self.random.randrange(self.count)
+
+    def end(self):
+        return self.random.choice(self.few if self.random.randrange(10) else self.ends)
+
+    def target(self):
+        """An END to which a source can be assigned."""
+        return self.random.choice([e for e in self.few if e % 8 < 7] or [0])
+
+    def queues(self):
+        return [end for end in self.machine.ends if "q" in end.flags]
+
+    def place(self):
+        """An address that matters to a queue, or else somewhere."""
+        pick = self.random
+        queues = self.queues()
+        if not queues or pick.randrange(8) == 0:
+            return pick.randrange(max(1, self.size >> 2)) << 2
+        end = pick.choice(queues)
+        return pick.choice((
+            end.place(end.written) + 4 * pick.choice((-2, -1, 0, 0, 1)),
+            end.place(end.taken) + 4 * pick.choice((-1, 0, 0, 1, 2)),
+            max(0, end.address + 4 * pick.choice((-2, -1, 0, 0, 0, 1, 2))),
+            end.address + (1 << end.shift) + 4 * pick.choice((-2, -1, -1, 0, 1)),
+            end.address + 4 * pick.randrange(end.entries()),
+            end.address + 4 * pick.randrange(end.entries())))
+
+    def edge(self):
+        """An address near the end of memory, or where a sum could wrap."""
+        pick = self.random
+        size = self.size
+        near = pick.choice((0, size, size, size, size - 4, TOP - 4, TOP - 1, 1 << 32, (1 << 32) + self.home, 1 << 63,
+                            TOP - size, 1 << 31, (1 << 32) + size, size << 1))
+        return near + pick.choice((0, 0, 0, -4, 4, -8, 1, 2, 3, -1, -2, -3))
+
+    # -- lines
+
+    def configure(self, e=None, flags=None, shift=None, address=None):
+        pick = self.random
+        e = self.end() if e is None else e
+        flags = flags or pick.choice(("vq",) * 8 + ("vqb",) * 4 + ("vqn", "vqnb", "vqn", "v", "vn", "vb", "-", "-"))
+        if flags == "-":
+            return self.work("endset", e, flags, 0, 0, 0, 0, 0, 0)
+        target, priority = pick.randrange(self.processors), pick.randrange(8)
+        if "q" not in flags or self.size == 0:
+            return self.work("endset", e, flags.replace("q", ""), target, priority, 0, 0, 0, 0)
+        shift = shift or pick.choice((12,) * 14 + (16,) * 4 + (21, 24))
+        if 1 << shift > self.size:
+            shift = 12
+        last = self.size - (1 << shift)
+        if address is None:
+            address = self.home + pick.choice((0,) * 6 + (0x1000, -0x1000, 0x2000))
+            address = pick.choice((address, address, address, 0, last, pick.randrange(self.size)))
+        self.work("endset", e, flags, target, priority, min(max(address, 0), last) >> shift << shift, shift, 0, 0)
+
+    def assign(self, s=None, e=None):
+        """Mostly so that the notices of the source reach the END."""
+        pick = self.random
+        s = self.source() if s is None else s
+        e = self.target() if e is None else e
+        flags, target, priority = pick.choice((2,) * 6 + (0, 0, 3, 1)), e // 8, e % 8
+        payload = pick.choice(PAYLOADS) if pick.randrange(2) else pick.getrandbits(pick.choice((7, 31, 32, 64)))
+        odd = pick.randrange(60 if self.plain else 12)
+        if odd == 0:
+            priority = pick.choice((0xff, 0xff, 0xff, 7, 7, 8, 0x100, 0x1ff, TOP - 1, 1 << 32))
+        elif odd == 1:
+            target = pick.choice((self.processors, self.processors - 1, 1 << 32, 1 << 61, TOP - 1))
+        elif odd == 2:
+            flags = pick.choice((4, 5, 6, 1 << 32, TOP - 1))
+        elif odd == 3:
+            s = pick.choice((self.count, self.count - 1, 1 << 32, TOP - 1))
+        self.work("hcall", 0x3ac, flags, s, target, priority, payload)
+        if priority == 0xff and pick.randrange(2):
+            self.work("hcall", 0x3ac, 0, s, target, e % 8, payload)  # no longer masked; the payload stays 0
+
+    def event(self, s=None):
+        """What makes a source forward, mostly with its route."""
+        pick = self.random
+        s = self.source() if s is None else s
+        source = self.machine.sources[s]
+        if source.pq == "01":
+            self.work("set", s, "00")
+        if source.level and source.asserted and pick.randrange(60):
+            self.work("finish", s)
+        elif source.level and pick.randrange(20) == 0:
+            self.work("assert" if source.pq == "00" else pick.choice(("raise", "lower", "assert")), s)
+        else:
+            if source.pq == "00" or (source.pq == "10" and not source.level and pick.randrange(3) == 0):
+                self.work("fire", s)
+            if source.pq == "11" or (source.pq == "10" and pick.randrange(4)):
+                self.work("finish", s)
+
+    def read(self, e=None):
+        self.work("read", self.end() if e is None else e)
+
+    def peek(self):
+        self.work("peek", (self.place() if self.random.randrange(4) else self.edge()) % TOP)
+
+    def zero(self):
+        pick = self.random
+        what = pick.randrange(10)
+        queues = self.queues()
+        if what < 2:
+            address, length = self.edge() % TOP, pick.choice((1, 2, 3, 4, 8, self.size, self.size + 4, 1 << 32))
+            to_the_end = pick.choice((self.size, TOP, TOP, TOP + self.size, 1 << 32)) - address
+            length = pick.choice((length, 0, to_the_end, to_the_end + 4, to_the_end - 4, TOP - 4, TOP - 8))
+            self.work("zero", address, max(0, length) % TOP)
+        elif what < 6 and queues:
+            end = pick.choice(queues)
+            whole = 1 << end.shift
+            self.work("zero", *pick.choice((
+                (end.address, whole), (end.address + pick.choice((0, whole >> 1)), whole >> 1),
+                (end.place(end.taken), 4 * pick.choice((1, 1, 2, 5, 40))),
+                (max(0, end.place(end.written) + 4 * pick.choice((-3, -2, -1, 0))), 4 * pick.choice((1, 2, 3, 9))))))
+        else:
+            length = pick.choice((0, 4, 4, 8, 12, 64, 0x1000, 2, 5, 4 * pick.randrange(1200)))
+            self.work("zero", self.place() % TOP, length)
+
+    def access(self):
+        """A load or a store on a page of a source or of an END."""
+        pick = self.random
+        offset = pick.choice((0, 0x3ff, 0x400, 0x7ff, 0x800, 0xbff, 0xc00, 0xd00, 0xe00, 0xf00, 0xfff, 0x1000, 0xffff,
+                              pick.randrange(0x10000)))
+        what = pick.randrange(5)
+        if what < 2:
+            self.work(("load", "store")[what], self.source(), pick.randrange(self.machine.pages), offset)
+        elif what == 2:
+            self.work("endstore", self.end(), pick.randrange(2), offset)
+        else:
+            self.work("endload", self.end(), pick.choice((0, 0, 0, 1)), pick.choice((0, 0, 0xc00, 0xd00, offset)))
+
+    def reopen(self):
+        """Gives an END its state back, so that it presents again."""
+        self.work("endload", self.end(), 0, 0xc00)
+
+    def raw(self):
+        """A line of a source, whatever its pair is."""
+        pick = self.random
+        s = self.source()
+        level = self.machine.sources[s].level
+        names = "trigger eoi get set set init route fire finish" + " raise lower assert init" * level
+        name = pick.choice(names.split())
+        more = {"set": [pick.choice(("00", "00", "01", "10", "11"))], "init": [pick.randrange(2) if level else 0]}
+        self.work(name, s, *more.get(name, []))
+
+    def any_line(self):
+        lines = ((self.event, 29), (self.read, 25), (self.raw, 8), (self.peek, 8), (self.zero, 6), (self.assign, 5),
+                 (self.configure, 5), (self.access, 8), (self.reopen, 2), (self.remark, 4))
+        self.choose(lines)()
+
+    def choose(self, weighted):
+        """One of these, by its weight."""
+        things, weights = zip(*weighted)
+        return self.random.choices(things, weights)[0]
+
+    def mix(self, many):
+        for _ in range(many):
+            if self.broken:
+                return
+            self.any_line()
+
+    # -- many events for one END
+
+    def set_up(self, flags=None):
+        """The ENDs that are used most have queues, and the sources go there."""
+        for e in self.few:
+            self.configure(e, flags or self.random.choice(("vq", "vqb", "vqn", "vq")), 12)
+        for s in range(self.count):
+            self.assign(s)
+            self.switch_on(s)
+
+    def switch_on(self, s):
+        if self.random.randrange(6):
+            self.work("set", s, "00")
+        if self.machine.sources[s].level and self.random.randrange(4):
+            self.work("assert", s)
+
+    def burst(self, e, sources, many, lag, every, calm):
+        """Events for an END, and reads that lag: one a time, or `every` of them together."""
+        pick = self.random
+        end = self.machine.ends[e]
+        owed = 0
+        for i in range(many):
+            before = end.written
+            for _ in range(4):
+                self.event(pick.choice(sources))
+                if end.written != before:
+                    break
+            else:
+                if self.machine.flight == 4096 and pick.randrange(40) == 0:
+                    return
+                if pick.randrange(3) == 0:
+                    self.work("hcall", 0x3ac, 2, pick.choice(sources), e // 8, e % 8, i)
+            owed += i >= lag
+            if owed >= every:
+                for _ in range(max(0, owed + pick.choice((0, 0, 0, 0, 1, 1, -1)))):
+                    self.read(e)
+                owed = 0
+            if pick.randrange(400 if calm else 150) == 0:
+                self.choose(((lambda: self.assign(pick.choice(sources), e), 3), (self.peek, 3), (self.reopen, 1)) + (
+                    () if calm else ((self.zero, 2), (self.raw, 1), (self.read, 1), (self.configure, 1))))()
+
+    def stream(self, flags, shift, counts, lags):
+        """A queue that is written and read for long; some lines stand between."""
+        pick = self.random
+        e = self.target()
+        sources = [s for s in range(self.count) if self.machine.sources[s].valid][:pick.choice((1, 1, 2, 4))]
+        if not sources:
+            return self.mix(100)
+        if pick.randrange(6) or "q" not in self.machine.ends[e].flags:
+            self.configure(e, flags, shift)
+        if "q" in self.machine.ends[e].flags and pick.randrange(3):
+            self.work("zero", self.machine.ends[e].address, 1 << shift)
+        for s in sources:
+            self.work("hcall", 0x3ac, 2, s, e // 8, e % 8, pick.choice(PAYLOADS))
+            self.switch_on(s)
+        self.plain = True
+        every = pick.choice((1, 1, 1, 2, 7, 100, 1024, 9999))
+        self.burst(e, sources, pick.choice(counts), pick.choice(lags), every, pick.randrange(3))
+        self.plain = False
+        for _ in range(pick.choice((0, 5, 5, 60, 1030, 1300))):
+            self.read(e)
+        for _ in range(pick.choice((0, 1, 3, 30))):
+            self.event(pick.choice(sources))
+            self.read(e)
+        self.mix(pick.choice((10, 60)))
+
+    # -- scenes
+
+    def wrapping(self):
+        self.header(1)
+        self.set_up()
+        for _ in range(self.random.choice((1, 1, 1, 2))):
+            self.stream(self.random.choice(("vq", "vqb", "vqn", "vq")), 12, COUNTS, LAGS)
+
+    def wrapping_64_kib(self):
+        self.header(1)
+        self.stream("vq", 16, (16383, 16384, 16385, 16400, 20000, 32770), (0, 3, 1024, 16383, 16384, 16385, 99999))
+
+    def full_bus(self):
+        """So many messages that the next route is refused."""
+        self.header(1)
+        self.set_up("vqn")
+        self.stream(self.random.choice(("vqn", "vqnb", "vn")), 12, (4090, 4096, 4097, 4120), LAGS)
+
+    def mixed(self):
+        self.header()
+        if self.random.randrange(4):
+            self.set_up()
+        self.mix(self.random.choice((0, 3, 20, 100, 300)))
+
+    def edges(self):
+        self.header()
+        self.set_up()
+        for _ in range(self.random.choice((30, 150))):
+            self.choose(((self.zero, 4), (self.peek, 3), (self.event, 2), (self.read, 1)))()
+
+    def one_page(self):
+        """ENDs that share a page, or lie beside one another, or within one another."""
+        self.header(1)
+        pick = self.random
+        self.few = pick.sample(self.ends[:7], 2) + self.few[:1]
+        self.home = pick.choice((0, 0x1000, self.size - 0x1000, self.size - 0x2000, 0xf000, 0x10000))
+        self.set_up("vq")
+        if pick.randrange(2):
+            self.configure(self.few[0], "vq", 16, self.home)
+        self.mix(pick.choice((60, 300)))
+
+    def reconfigured(self):
+        """ENDs that are configured again while entries are unread, with and without zeros on the page."""
+        self.header(1)
+        self.set_up()
+        pick = self.random
+        for _ in range(pick.choice((4, 12))):
+            e = pick.choice(self.few)
+            for _ in range(pick.randrange(8)):
+                self.event()
+            for _ in range(pick.randrange(6)):
+                self.read(e)
+            self.configure(e)
+            if pick.randrange(3) == 0:
+                self.zero()
+            for _ in range(pick.randrange(4)):
+                self.read(e)
+            self.mix(pick.randrange(6))
+
+    # -- scenes with lines that are wrong
+
+    def wrong_queue(self):
+        """Behind the end of memory, or not aligned, or of a length that no queue has."""
+        pick = self.random
+        size = self.size
+        beyond = ((12, size), (12, size), (12, size), (12, size + 0x1000), (12, TOP - 0x1000), (12, 1 << 32),
+                  (16, size), (16, TOP - 0x10000), (21, 0 if size < 1 << 21 else size),
+                  (24, 0 if size < 1 << 24 else size))
+        not_aligned = ((12, 4), (12, 0x800), (12, size - 0x800), (16, size - 0x1000), (16, 0x1000), (16, 0x8000),
+                       (21, 0x100000), (21, 0x10000), (24, 0x200000))
+        no_such_length = ((13, 0), (13, 0), (13, 0x2000), (13, size - 0x2000), (14, 0x4000), (11, 0), (20, 0), (22, 0),
+                          (2, 0), (0, 0), (32, 0), (64, 0), (76, 0))
+        shift, address = pick.choice(pick.choice((beyond, not_aligned, no_such_length, ((12, self.home),))))
+        flags, priority = pick.choice((("vq", 0), ("vqn", 7)))
+        if (shift, address) == (12, self.home):
+            flags, priority = pick.choice((("vq", 8), ("q", 0)))
+        self.work("endset", self.end(), flags, 0, priority, address % TOP, shift, 0, 0)
+
+    def spoil(self, line):
+        """A line with one mistake, mostly."""
+        pick = self.random
+        text = line.decode("latin-1")
+        words = text.split(" ")
+        at, i = pick.randrange(len(words)), pick.randrange(len(text) + 1)
+        what = pick.randrange(14)
+        if what == 0:
+            del words[at]
+        elif what == 1:
+            words.insert(at, words[at])
+        elif what == 2:
+            words.append(pick.choice(ODD_WORDS))
+        elif what < 8:
+            words[at] = pick.choice(ODD_WORDS)
+        elif what == 8:
+            limits = self.count, len(self.ends), self.actors, self.processors, self.machine.pages, self.size
+            words[at] = str(max(0, pick.choice(limits) - pick.choice((0, 0, 1, 0x1000))))
+        elif what == 9:
+            words[at] = pick.choice((words[at].upper(), words[at] + "0", words[at][:-1], words[at].zfill(21)))
+        elif what == 10:
+            words = [text.ljust(pick.choice((255, 256, 257, 300)))]
+        elif what == 11:
+            words = [text[:i] + chr(pick.randrange(256)) + text[i + 1:]]
+        else:
+            words = [text[:i] + pick.choice(ODD_BYTES) + text[i:]]
+        return " ".join(words).replace("\n", " ").encode("latin-1")
+
+    def spoiled_line(self):
+        """The line that is spoiled is only made, and not done."""
+        before = len(self.lines)
+        kept, self.broken = self.broken, True
+        while len(self.lines) == before:
+            self.any_line()
+        line = self.lines[before]
+        del self.lines[before:]
+        self.broken = kept
+        self.feed(self.spoil(line))
+
+    def odd_line(self):
+        pick = self.random
+        comment = b"#" + bytes(pick.choice((0x20, 0x41, 0x7e, 9, 13, 0x7f, 0xc3)) for _ in range(3))
+        long = pick.choice((b"#", b"0 get 0", b"end")) + b" " * pick.choice((240, 249, 252, 253, 255, 256))
+        self.feed(pick.choice((comment, long, *[pick.choice(ODD_LINES).encode() for _ in range(6)])))
+
+    def refused(self):
+        pick = self.random
+        self.header(pick.randrange(2))
+        if pick.randrange(3):
+            self.set_up()
+        self.mix(pick.choice((0, 3, 20)))
+        self.plain = True
+        for _ in range(pick.choice((1, 1, 2, 4))):
+            self.choose(((self.odd_line, 4), (self.wrong_queue, 4), (self.spoiled_line, 4)))()
+        self.mix(4)
+
+    def refused_header(self):
+        pick = self.random
+        self.header()
+        lines = self.lines[:]
+        at, other = pick.randrange(len(lines)), pick.randrange(len(lines))
+        what = pick.choice((0, 1, 2, 2, 3, 4, 5, 6, 7, 7, 8))
+        if what == 0:
+            del lines[at]
+        elif what == 1:
+            lines[at], lines[other] = lines[other], lines[at]
+        elif what == 2:
+            lines = lines[:at]
+        elif what == 3:
+            lines[7:7] = [b"level 0 0"] * pick.choice((15, 16, 17))
+        elif what == 4:
+            lines[-1:-1] = [b"unclaimed 0 0"] * pick.choice((15, 16, 17))
+        elif what == 5:
+            lines.insert(at, pick.choice(lines + [pick.choice(ODD_LINES).encode()]))
+        elif what == 6:
+            at = pick.randrange(6)
+            most = (1, 8192, 64, 32, 64, 16)[at]
+            lines[at] = b"%s %d" % (lines[at].split()[0], pick.choice((0, most, most + 1)))
+        elif what == 7:
+            lines[-1:-1] = pick.choice(([b"level 1 0"], [b"unclaimed 1 0"], [b"level 0 %d" % self.count], [b"level 0"],
+                                        [b"esb 2 2"], [b"end"], [b"unclaimed 0 0", b"level 0 0"], [b"level 0 0"]))
+        else:
+            lines[at] = self.spoil(lines[at])
+        self.lines, self.run, self.broken = [], Run(), False
+        for line in lines:
+            self.feed(line)
+        if self.run.machine and not self.broken:
+            self.learn()
+            self.set_up()
+            self.mix(pick.choice((0, 20)))
+
+    # -- the whole
+
+    def bytes(self):
+        self.choose(((self.wrapping, 20), (self.wrapping_64_kib, 3), (self.full_bus, 4), (self.mixed, 10),
+                     (self.edges, 10), (self.one_page, 7), (self.reconfigured, 7), (self.refused, 50),
+                     (self.refused_header, 25)))()
+        return b"\n".join(self.lines) + self.random.choice((
+            b"", b"\n", b"\nend", b"\nend\n", b"\nend\n", b"\n\n# the end\n  \n",
+            b"\n  end \nread 0\n\xff\n" + b"#" * 300 + b"\n0 read 0\n"))
+
+
+def generate(seed):
+    return Script(seed).bytes()
+
+
+def deep():
+    lines = ["board 1", "sources 1", "processors 1", "threads 1", "ram 2", "actors 1", "esb 2 0", "level 0 0", "go",
+             "0 endset 0 vq 0 0 0 21 0 0", "0 hcall 0x3ac 2 0 0 0 0x1234567", "0 set 0 00", "0 assert 0"]
+    lines += ["0 finish 0"] * 3 + ["0 finish 0", "0 read 0"] * 524287 + ["0 read 0"] * 8
+    lines += ["0 peek 0", "0 peek 4", "0 peek 8", "0 peek 12", "0 peek 0x1ffffc", "end", ""]
+    return "\n".join(lines).encode()
+
+
+def main():
+    if len(sys.argv) != 2:
+        sys.exit("usage: fuzz/generate.py SEED|deep")
+    sys.stdout.buffer.write(deep() if sys.argv[1] == "deep" else generate(int(sys.argv[1])))
+
+
+if __name__ == "__main__":
+    main()

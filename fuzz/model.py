@@ -1,0 +1,530 @@
+#!/usr/bin/env python3
+"""What `xive_cli run` has to write of a script: a second opinion, worked out from docs/FORMATS.md alone.
+
+    fuzz/model.py < SCRIPT      writes the account; the exit status is 0 (done), 2 (refused) or 7 (too long)
+
+`run(script)` answers both, of bytes. Streams that fail and too little memory are not in it.
+"""
+import re
+import sys
+
+MOST_BYTES = 16777216
+MOST_IN_A_LINE = 256
+MOST_RANGES = 16
+MOST_IN_FLIGHT = 4096
+
+# ---- words -----------------------------------------------------------------------------------------------------------
+
+DECIMAL = re.compile(r"[0-9]{1,20}\Z")
+HEXADECIMAL = re.compile(r"0[xX][0-9a-fA-F]{1,16}\Z")
+LETTERS = re.compile(r"-\Z|(?=.)v?q?n?b?\Z")
+BAD_BYTE = re.compile(rb"[^\x20-\x7e]")
+
+
+class Refused(Exception):
+    """The line isn't in the language."""
+
+
+def number(word):
+    """The value of a number, below 2^64."""
+    if HEXADECIMAL.match(word):
+        return int(word, 16)
+    if DECIMAL.match(word) and int(word) < 1 << 64:
+        return int(word)
+    raise Refused
+
+
+def within(word, least, most):
+    """A number from least to most, both included."""
+    value = number(word)
+    if not least <= value <= most:
+        raise Refused
+    return value
+
+
+# ---- the table of pairs ----------------------------------------------------------------------------------------------
+
+PAIRS = ("00", "01", "10", "11")
+
+
+def row(cells):
+    """What is left where 00, 01, 10 and 11 are found, and whether that forwards (F)."""
+    return {found: (cell[:2], cell.endswith("F")) for found, cell in zip(PAIRS, cells.split())}
+
+
+TRIGGER = row("10F 01 11 11")
+LEVEL_TRIGGER = row("10F 01 10 11")
+EOI = row("00 01 00 10F")
+EOI_LINE_UP = row("10F 01 10F 10F")
+RAISE = row("10F 01 10 11")
+KEEP = row("00 01 10 11")
+SET = {pair: row(" ".join([pair] * 4)) for pair in PAIRS}
+
+
+def row_at(offset, store, trigger, eoi, store_eoi):
+    """The row of an access to a management page; None where the offset is bad."""
+    offset %= 4096
+    if offset >= 0xc00:
+        return SET[PAIRS[offset // 0x100 % 4]]
+    if offset >= 0x800:
+        return None if store else KEEP
+    if not store:
+        return eoi
+    if offset < 0x400:
+        return trigger
+    return eoi if store_eoi else None
+
+
+# ---- the parts of a board --------------------------------------------------------------------------------------------
+
+
+class Memory:
+    """Words of 4 bytes, each a big-endian number. All are 0 at the start."""
+
+    def __init__(self, mib):
+        self.size = mib * 1048576
+        self.bytes = bytearray(self.size)
+
+    def fits(self, address, length):
+        return address % 4 == 0 and length % 4 == 0 and address + length <= self.size
+
+    def word(self, address):
+        return int.from_bytes(self.bytes[address:address + 4], "big")
+
+    def put(self, address, word):
+        self.bytes[address:address + 4] = word.to_bytes(4, "big")
+
+    def zero(self, address, length):
+        self.bytes[address:address + length] = bytes(length)
+
+
+class Source:
+    """A source and its EAS. It starts off, and its EAS masked, with END 0 and payload 0."""
+
+    def __init__(self, level, claimed):
+        self.level = level
+        self.pq = "01"
+        self.asserted = False
+        self.forwards = 0
+        self.routes = 0
+        self.valid = claimed
+        self.masked = True
+        self.end = 0
+        self.payload = 0
+
+    def outstanding(self):
+        return self.forwards - self.routes
+
+    def trigger_row(self):
+        return LEVEL_TRIGGER if self.level else TRIGGER
+
+    def eoi_row(self):
+        return EOI_LINE_UP if self.level and self.asserted else EOI
+
+    def apply(self, cells):
+        """Takes the pair through a row; answers the outcome, and whether it forwarded."""
+        old = self.pq
+        self.pq, forwards = cells[old]
+        if not forwards:
+            return f"{old} {self.pq}", False
+        self.forwards += 1
+        return f"{old} {self.pq} forward {self.forwards}", True
+
+
+class End:
+    def __init__(self):
+        self.configure("-", 0, 0)
+
+    def configure(self, flags, address, shift):
+        """Both states are 00 with v, else 01; nothing was written since, and nothing taken."""
+        self.flags = flags
+        self.address = address
+        self.shift = shift
+        self.states = ["00", "00"] if "v" in flags else ["01", "01"]
+        self.written = 0
+        self.taken = 0
+
+    def entries(self):
+        return 1 << (self.shift - 2)
+
+    def place(self, j):
+        return self.address + 4 * (j % self.entries())
+
+    def generation(self, j):
+        return 1 if (j // self.entries()) % 2 == 0 else 0
+
+    def enqueue(self, memory, payload):
+        """Writes the next entry: the generation, and 31 bits of payload."""
+        address = self.place(self.written)
+        word = self.generation(self.written) << 31 | payload
+        memory.put(address, word)
+        self.written += 1
+        return address, word
+
+    def read(self, memory):
+        """A guest sees memory alone: whether the next entry is there it finds by the generation."""
+        if "q" not in self.flags:
+            return "no-queue"
+        word = memory.word(self.place(self.taken))
+        if word >> 31 != self.generation(self.taken):
+            return "empty"
+        self.taken += 1
+        return f"item {word & 0x7fffffff:#x}"
+
+
+# ---- the header ------------------------------------------------------------------------------------------------------
+
+
+class Board:
+    """The header, given line by line."""
+
+    COUNTS = (("board", 1, 1), ("sources", 1, 8192), ("processors", 1, 64), ("threads", 1, 32), ("ram", 0, 64),
+              ("actors", 1, 16))
+
+    def __init__(self):
+        self.counts = {}
+        self.esb = None
+        self.level = []
+        self.unclaimed = []
+
+    def feed(self, words):
+        """True where this was the go line, so that the header is whole."""
+        if len(self.counts) < len(self.COUNTS):
+            name, least, most = self.COUNTS[len(self.counts)]
+            self.expect(words, name, 1)
+            self.counts[name] = within(words[1], least, most)
+        elif self.esb is None:
+            self.expect(words, "esb", 2)
+            self.esb = within(words[1], 1, 2), within(words[2], 0, 1)
+        elif words[0] == "level" and not self.unclaimed:
+            self.range(words, self.level)
+        elif words[0] == "unclaimed":
+            self.range(words, self.unclaimed)
+        else:
+            self.expect(words, "go", 0)
+            return True
+        return False
+
+    @staticmethod
+    def expect(words, name, many):
+        if words[0] != name or len(words) != many + 1:
+            raise Refused
+
+    def range(self, words, ranges):
+        if len(ranges) == MOST_RANGES or len(words) != 3:
+            raise Refused
+        last = self.counts["sources"] - 1
+        first = within(words[1], 0, last)
+        ranges.append((first, within(words[2], first, last)))
+
+    def text(self):
+        lines = [f"{name} {self.counts[name]}" for name, _, _ in self.COUNTS[1:]]
+        lines.append("esb {} {}".format(*self.esb))
+        lines += ["level {} {}".format(*both) for both in self.level]
+        lines += ["unclaimed {} {}".format(*both) for both in self.unclaimed]
+        return lines + ["go"]
+
+
+# ---- the machine -----------------------------------------------------------------------------------------------------
+
+# The work lines without their ACTOR; N is any number. `line_NAME` of the machine does what a line says.
+LINES = {line.split()[0]: line.split()[1:] for line in (
+    "trigger S", "eoi S", "get S", "set S PQ", "raise S", "lower S", "init S A", "load S PAGE OFFSET",
+    "store S PAGE OFFSET", "route S", "fire S", "finish S", "assert S", "hcall N N N N N N",
+    "endset E FLAGS V N N N N N", "endload E END-PAGE OFFSET", "endstore E END-PAGE OFFSET", "read E", "peek N",
+    "zero N N")}
+
+
+class Machine:
+    def __init__(self, board, out):
+        self.out = out
+        self.counts = board.counts
+        self.pages, self.store_eoi = board.esb
+        self.processors = board.counts["processors"]
+        self.memory = Memory(board.counts["ram"])
+        self.sources = [Source(any(a <= s <= b for a, b in board.level),
+                               not any(a <= s <= b for a, b in board.unclaimed))
+                        for s in range(board.counts["sources"])]
+        self.ends = [End() for _ in range(8 * self.processors)]
+        self.flight = 0
+        self.count = 0
+        self.actor = 0
+        self.most = {"S": len(self.sources) - 1, "E": len(self.ends) - 1, "V": self.processors - 1, "A": 1,
+                     "PAGE": self.pages - 1, "END-PAGE": 1, "OFFSET": 0xffff, "N": (1 << 64) - 1}
+
+    def line(self, words):
+        """Reads a work line, and makes its entries."""
+        self.actor = within(words[0], 0, self.counts["actors"] - 1)
+        if len(words) < 2 or words[1] not in LINES or len(words) - 2 != len(LINES[words[1]]):
+            raise Refused
+        fields = [self.field(name, word) for name, word in zip(LINES[words[1]], words[2:])]
+        getattr(self, "line_" + words[1])(*fields)
+
+    def field(self, name, word):
+        if name == "PQ" and word in PAIRS or name == "FLAGS" and LETTERS.match(word):
+            return word
+        if name in ("PQ", "FLAGS"):
+            raise Refused
+        return within(word, 0, self.most[name])
+
+    def entry(self, operation, outcome):
+        self.out.append(f"{self.count} {self.actor} {operation} -> {outcome}")
+        self.count += 1
+
+    # -- sources
+
+    def on_pair(self, operation, s, cells):
+        outcome, forwarded = self.sources[s].apply(cells)
+        self.entry(operation, outcome)
+        return forwarded
+
+    def line_trigger(self, s):
+        return self.on_pair(f"trigger {s}", s, self.sources[s].trigger_row())
+
+    def line_eoi(self, s):
+        return self.on_pair(f"eoi {s}", s, self.sources[s].eoi_row())
+
+    def line_get(self, s):
+        self.on_pair(f"get {s}", s, KEEP)
+
+    def line_set(self, s, pair):
+        self.on_pair(f"set {s} {pair}", s, SET[pair])
+
+    def move(self, operation, s, cells, up):
+        """The line of a level source goes up or down."""
+        if not self.sources[s].level:
+            raise Refused
+        self.sources[s].asserted = up
+        return self.on_pair(f"{operation} {s}", s, cells)
+
+    def line_raise(self, s):
+        return self.move("raise", s, RAISE, True)
+
+    def line_lower(self, s):
+        self.move("lower", s, KEEP, False)
+
+    def line_init(self, s, up):
+        if up and not self.sources[s].level:
+            raise Refused
+        self.sources[s].asserted = up == 1
+        self.on_pair(f"init {s} {up}", s, SET["01"])
+
+    # Where the first step forwarded, the notice is routed.
+
+    def line_fire(self, s):
+        if self.line_trigger(s):
+            self.line_route(s)
+
+    def line_finish(self, s):
+        if self.line_eoi(s):
+            self.line_route(s)
+
+    def line_assert(self, s):
+        if self.line_raise(s):
+            self.line_route(s)
+
+    # -- pages
+
+    def line_load(self, s, page, offset):
+        self.entry(f"load {s} {page} {offset:#x}", self.access(self.sources[s], page, offset, False))
+
+    def line_store(self, s, page, offset):
+        self.entry(f"store {s} {page} {offset:#x}", self.access(self.sources[s], page, offset, True))
+
+    def access(self, source, page, offset, store):
+        """With two pages, page 0 is the trigger page."""
+        if self.pages == 2 and page == 0:
+            return source.apply(source.trigger_row())[0] if store else "ones"
+        cells = row_at(offset, store, source.trigger_row(), source.eoi_row(), self.store_eoi)
+        return "bad-offset" if cells is None else source.apply(cells)[0]
+
+    def line_endload(self, e, page, offset):
+        """What a load of a management page does to the pair of a message source, a state of an END does too."""
+        end = self.ends[e]
+        outcome = "no-end"
+        if "v" in end.flags:
+            old = end.states[page]
+            end.states[page] = row_at(offset, False, TRIGGER, EOI, False)[old][0]
+            outcome = f"{old} {end.states[page]}"
+        self.entry(f"endload {e} {page} {offset:#x}", outcome)
+
+    def line_endstore(self, e, page, offset):
+        self.entry(f"endstore {e} {page} {offset:#x}", "bad-offset")
+
+    # -- EASes and configurations
+
+    def line_hcall(self, call, *arguments):
+        if call != 0x3ac:
+            raise Refused
+        shown = " ".join(hex(argument) for argument in arguments)
+        self.entry(f"hcall 0x3ac {shown}", f"code {self.set_source_config(*arguments)}")
+
+    def set_source_config(self, flags, s, target, priority, payload):
+        """The first of these that holds is the code; a code other than 0 changes nothing."""
+        if flags > 3:
+            return -4
+        if s >= len(self.sources) or not self.sources[s].valid:
+            return -55
+        source = self.sources[s]
+        if priority == 0xff:
+            source.masked, source.end, source.payload = True, 0, 0
+            return 0
+        if priority > 6:
+            return -57
+        if target >= self.processors:
+            return -56
+        source.end = 8 * target + priority
+        source.masked = flags & 1 != 0
+        if flags & 2:
+            source.payload = payload & 0x7fffffff
+        return 0
+
+    def line_endset(self, e, flags, v, priority, address, shift, escalation, payload):
+        if "v" not in flags and (flags, v, priority) != ("-", 0, 0):
+            raise Refused
+        if priority > 7 or not self.takes_queue(flags, address, shift) or escalation or payload:
+            raise Refused
+        self.ends[e].configure(flags, address, shift)
+        self.entry(f"endset {e} {flags} {v} {priority} {address:#x} {shift} 0 0x0", "ok")
+
+    def takes_queue(self, flags, address, shift):
+        """The queue is aligned and lies within the memory; without q the numbers are 0."""
+        if "q" not in flags:
+            return address == 0 and shift == 0
+        return shift in (12, 16, 21, 24) and address % (1 << shift) == 0 and address + (1 << shift) <= self.memory.size
+
+    # -- routes
+
+    def line_route(self, s):
+        self.entry(f"route {s}", self.routed(self.sources[s]))
+
+    def routed(self, source):
+        """The first of these that holds decides."""
+        if source.outstanding() == 0:
+            return "no-notice"
+        if self.flight == MOST_IN_FLIGHT:
+            return "bus-full"
+        source.routes += 1
+        if not source.valid:
+            return f"{source.routes} no-source"
+        if source.masked:
+            return f"{source.routes} masked"
+        return f"{source.routes} end {source.end} {self.end_pass(self.ends[source.end], source.payload)}"
+
+    def end_pass(self, end, payload):
+        """Writes with q; then presents, but without n only where ESn is 00."""
+        if "v" not in end.flags:
+            return "no-end"
+        wrote = "unwritten"
+        if "q" in end.flags:
+            wrote = "wrote {:#x} {:#x}".format(*end.enqueue(self.memory, payload))
+        if "n" not in end.flags:
+            end.states[0], notifies = TRIGGER[end.states[0]]
+            if not notifies:
+                return wrote + " coalesced"
+        self.flight += 1
+        return wrote + " present"
+
+    # -- memory
+
+    def line_read(self, e):
+        self.entry(f"read {e}", self.ends[e].read(self.memory))
+
+    def line_peek(self, address):
+        outcome = "bad-range"
+        if self.memory.fits(address, 4):
+            outcome = f"word {self.memory.word(address):#x}"
+        self.entry(f"peek {address:#x}", outcome)
+
+    def line_zero(self, address, length):
+        outcome = "bad-range"
+        if self.memory.fits(address, length):
+            self.memory.zero(address, length)
+            outcome = "ok"
+        self.entry(f"zero {address:#x} {length:#x}", outcome)
+
+    # -- the report
+
+    def report(self):
+        out = [f"end {self.count}"]
+        for s, source in enumerate(self.sources):
+            if source.pq != "01" or source.forwards or source.asserted:
+                line = "source {} {} {} {}".format(s, source.pq, source.forwards, source.routes)
+                out.append(line + (" asserted" if source.asserted else ""))
+        for e, end in enumerate(self.ends):
+            if "v" in end.flags:
+                out.append("queue {} {} {} {} {} {}".format(e, end.flags, end.written, end.taken, *end.states))
+        out += [f"processor {v} saved 0x0 0x0 0x0" for v in range(self.processors)]
+        out += [f"ring {t} 0x0 0x0 0x0 0xff 0x0" for t in range(self.counts["threads"])]
+        out.append(f"flight {self.flight}")
+        out.append("notices {}".format(sum(source.outstanding() for source in self.sources)))
+        return out + ["done"]
+
+
+# ---- a run -----------------------------------------------------------------------------------------------------------
+
+
+class Run:
+    def __init__(self):
+        self.board = Board()
+        self.machine = None
+        self.out = []
+        self.ended = False
+
+    def feed(self, line):
+        """One line, without its newline."""
+        if len(line) > MOST_IN_A_LINE or BAD_BYTE.search(line):
+            raise Refused
+        words = [word for word in line.decode("ascii").split(" ") if word]
+        if not words or words[0].startswith("#"):
+            return
+        if self.machine is not None and words == ["end"]:
+            self.ended = True
+        elif self.machine is not None:
+            self.machine.line(words)
+        elif self.board.feed(words):
+            self.machine = Machine(self.board, self.out)
+            self.out += ["xive-account 1"] + self.board.text()
+
+    def all(self, script):
+        """The whole script; answers the status."""
+        too_long = len(script) >= MOST_BYTES
+        script = script[:MOST_BYTES]
+        at, lines = 0, 0
+        try:
+            while at < len(script) and not self.ended:
+                newline = script.find(b"\n", at)
+                if newline < 0:
+                    newline = len(script)
+                    if too_long and newline - at <= MOST_IN_A_LINE:
+                        break  # neither its newline nor its 257th byte is among the bytes that count
+                lines += 1
+                self.feed(script[at:newline])
+                at = newline + 1
+            if too_long and not self.ended:
+                self.out.append("too-long")
+                return 7
+            if self.machine is None:
+                lines += 1  # the line after the last
+                raise Refused
+        except Refused:
+            self.out.append(f"refused line {lines} byte 1 not-built")
+            return 2
+        self.out += self.machine.report()
+        return 0
+
+
+def run(script):
+    this = Run()
+    status = this.all(script)
+    return ("\n".join(this.out) + "\n").encode("ascii"), status
+
+
+def main():
+    written, status = run(sys.stdin.buffer.read())
+    sys.stdout.buffer.write(written)
+    sys.exit(status)
+
+
+if __name__ == "__main__":
+    main()
