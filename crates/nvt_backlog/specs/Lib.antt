@@ -1,0 +1,2 @@
+-- What is kept of virtual processors.
+pub mod Vps
