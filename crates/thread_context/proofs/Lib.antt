@@ -1,0 +1,4 @@
+-- Lemmas.
+pub mod Effects
+pub mod Numbers
+pub mod Pending
