@@ -1,0 +1,5 @@
+-- Lemmas.
+pub mod Fitting
+pub mod Keeping
+pub mod Moved
+pub mod Users
