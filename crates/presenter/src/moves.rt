@@ -13,6 +13,10 @@ use nvt_backlog::{Vp, Vps};
 use thread_context::Rings;
 use xv_model::outcomes::{MoveRefused, Phase};
 
+/// The CAM word of processor 0 with its valid bit; those of the others follow (QEMU's
+/// hw/intc/spapr_xive.c, SPAPR_XIVE_NVT_BASE).
+const FIRST_CAM: u32 = 0x8000_0400;
+
 /// The processor that uses a thread.
 fn user(vps: &Vps, t: u32) -> Option<u32>
     ensures some { (v : ℕ) → result ≡ Some v → Uses vps.now.vps v t }
@@ -124,9 +128,8 @@ fn named(vps: &Vps, cam: u32) -> Option<u32>
     requires few { length vps.now.vps < 0x4000_0000 }
     ensures { result ≡ named_by (length vps.now.vps) cam }
 {
-    let first = 0x8000_0400;
-    if cam >= first && cam < first + vps.count() {
-        Some(cam - first)
+    if cam >= FIRST_CAM && cam < FIRST_CAM + vps.count() {
+        Some(cam - FIRST_CAM)
     } else {
         None
     }
