@@ -1,5 +1,5 @@
 -- What the fabric's definitions say of an account they say of its fabric entries alone.
-use Rattle.std.proofs.Common.{ℕ, ◌≡◌, ◌==◌, ◌+◌, ◌-◌, ◌&&◌, ◌≢◌, nat_lt, Bool, true, false, not, cond, if◌then◌else◌, List, [], ◌∷◌, ◌++◌, length, filter, Option, Some, None, refl, sym, ◌∙◌, ap, append-nil}
+use Rattle.std.proofs.Common.{ℕ, ◌≡◌, ◌==◌, ◌+◌, ◌-◌, ◌&&◌, ◌||◌, nat_lt, Bool, true, false, not, cond, if◌then◌else◌, List, [], ◌∷◌, ◌++◌, length, slice_get, filter, Option, Some, None, refl, sym, ◌∙◌, ap, append-nil}
 use Rattle.std.specs.Option.{option_map_or}
 use Rattle.xv_base.specs.Limits.{most_messages}
 use Rattle.xv_model.specs.declared.hypercalls.TheConstants.{H_SUCCESS, H_PARAMETER, H_P2, H_P3, H_P4, SRC_FLAGS, PRIORITY_MASKED, PRIORITY_RESERVED}
@@ -12,10 +12,11 @@ use Rattle.xv_model.specs.declared.outcomes.EndRun.TheVariants as run
 use Rattle.xv_model.specs.declared.outcomes.Routed.TheVariants.{NoSource, Masked, Run}
 use Rattle.xv_model.specs.declared.outcomes.Outcome.{Outcome}
 use Rattle.xv_model.specs.declared.outcomes.Outcome.TheVariants as out
+use Rattle.xv_model.specs.declared.messages.Message.{Message}
 use Rattle.xv_model.specs.declared.entries.Entry.{Entry}
 use Rattle.xv_model.specs.declared.board.Board.{Board}
 use Rattle.xv_model.specs.account.Start.{Start}
-use Rattle.xv_model.specs.account.Kinds.{WordAccess, access_of, part_beside, is_quiet, is_fabric, run_of}
+use Rattle.xv_model.specs.account.Kinds.{is_fabric, run_of}
 use Rattle.xv_model.specs.source.PqTable.{trigger_row}
 use Rattle.xv_model.specs.source.Notices.{forwards, routes, outstanding}
 use Rattle.xv_model.specs.end.Flags.{is_valid, enqueues}
@@ -27,12 +28,12 @@ use Rattle.xv_model.specs.end.Written.{wrote_in, payload_of, written, written_co
 use Rattle.xv_model.specs.end.Memory.{place, zeroed_in, word_by, word_at, peek_outcome}
 use Rattle.xv_model.specs.end.Reading.{item_in, taken, taken_count, read_by, read_outcome}
 use Rattle.xv_model.specs.board.Validity.{ram_size, fits}
-use Rattle.xv_model.specs.route.Flight.{origin_of, made_by, messages_by, flight}
+use Rattle.xv_model.specs.route.Flight.{made_by, messages_by, source_of, taken_in, is_escalating, escalation_of, made, without, messages_after, flight}
 use Rattle.xv_model.specs.route.Routing.{write_by, next_by, end_pass, routed_by, route_outcome}
 use Rattle.xv_model.specs.route.Quiet.{messages_of, quiet_by, quiet_answer}
+use Rattle.xv_model.specs.processor.Phases.{connected_in, is_connected}
 use Rattle.xv_model.specs.call.Arguments.{source_config}
-use Rattle.xv_model.specs.call.Hypercalls.{bare_reply, hcall_reply, is_target}
-use Rattle.xv_model.specs.account.Legal.{answer_on, legal}
+use Rattle.xv_model.specs.call.Hypercalls.{bare_reply, hcall_reply}
 use Rattle.xv_model.specs.account.Halves.{words_of, fabric_of}
 use Rattle.xv_model.proofs.HalvesLemmas.{half, forwards-half, routes-half}
 
@@ -52,10 +53,16 @@ no_run b (op.Route s) u other = cc
 no_run b (op.Take i) u other = cc
 no_run b _ u other = refl
 
--- an operation that isn't the fabric's is no route
-no_origin : (b : Board) (o : Op) → is_fabric b o ≡ false → origin_of o ≡ None
-no_origin b (op.Route s) other = cc
-no_origin b _ other = refl
+-- an operation that isn't the fabric's neither takes nor makes a message
+no_messages : (z : Start) (h : List Entry) (o : Op) (u : Outcome) (ms : List Message) → is_fabric z.board o ≡ false → messages_after z h o u ms ≡ ms
+no_messages z h (op.Route s) u ms other = cc
+no_messages z h (op.Take i) u ms other = cc
+no_messages z h _ u ms other = append-nil ms
+
+-- an operation that isn't the fabric's connects no processor
+no_connection : (b : Board) (o : Op) (u : Outcome) → is_fabric b o ≡ false → connected_in o u ≡ None
+no_connection b (op.Connect v) u other = cc
+no_connection b _ u other = refl
 
 -- an entry that isn't the fabric's configures no END
 no_config_by : (b : Board) (e : ℕ) (x : Entry) → is_fabric b x.op ≡ false → config_by e x ≡ None
@@ -130,7 +137,7 @@ taken_count-skips z e x h other = λ i. length (taken-skips z e x h other i) + u
 
 -- an entry that isn't the fabric's leaves the messages in flight
 pub flight-skips : (z : Start) (x : Entry) (h : List Entry) → is_fabric z.board x.op ≡ false → flight z (x ∷ h) ≡ flight z h
-flight-skips z x h other = rw (no_origin z.board x.op other) (append-nil (flight z h))
+flight-skips z x h other = no_messages z h x.op x.outcome (flight z h) other
 
 -- the EAS of s is that of the fabric's entries
 pub eas-half : (z : Start) (s : ℕ) (h : List Entry) → eas z (fabric_of z.board h) s ≡ eas z h s
@@ -215,15 +222,40 @@ read_outcome-half z e h =
 pub peek_outcome-half : (z : Start) (a : ℕ) (h : List Entry) → peek_outcome z (fabric_of z.board h) a ≡ peek_outcome z h a
 peek_outcome-half z a h = λ i. if fits (ram_size z.board) a 4 then out.Cell (word_at-half z a h i) else out.BadRange
 
+-- an entry that isn't the fabric's connects no processor
+pub is_connected-skips : (z : Start) (v : ℕ) (x : Entry) (h : List Entry) → is_fabric z.board x.op ≡ false → is_connected z (x ∷ h) v ≡ is_connected z h v
+is_connected-skips z v x h other = rw (no_connection z.board x.op x.outcome other) refl
+
+-- whether v is connected is what the fabric's entries say
+pub is_connected-half : (z : Start) (v : ℕ) (h : List Entry) → is_connected z (fabric_of z.board h) v ≡ is_connected z h v
+is_connected-half z v = half (λ x. is_fabric z.board x.op) (λ h. is_connected z h v) (λ x h. ap (λ before. option_map_or (λ u. u == v) (connected_in x.op x.outcome) false || before)) (is_connected-skips z v)
+
 -- the message that a pass makes after the fabric's entries is the one that it makes after the account
-made_by-half : (z : Start) (h : List Entry) (m : Option ℕ) (r : Option EndRun) → made_by z (fabric_of z.board h) m r ≡ made_by z h m r
-made_by-half z h (Some s) (Some (run.Ran e wrote next)) = ap (λ c. messages_by next e c s) (end_config-half z e h)
-made_by-half z h (Some s) _ = refl
-made_by-half z h None r = refl
+made_by-half : (z : Start) (h : List Entry) (s : ℕ) (r : Option EndRun) → made_by z (fabric_of z.board h) s r ≡ made_by z h s r
+made_by-half z h s (Some (run.Ran e wrote next)) = ap (λ c. messages_by next e c s) (end_config-half z e h)
+made_by-half z h s (Some (run.NoEnd e)) = refl
+made_by-half z h s None = refl
+
+-- the message that is made of one that was taken
+made_of-half : (z : Start) (h : List Entry) (escalates : Bool) (r : Option EndRun) (m : Option Message) →
+    option_map_or (λ n. if escalates then escalation_of n else made_by z (fabric_of z.board h) (source_of n) r) m [] ≡ option_map_or (λ n. if escalates then escalation_of n else made_by z h (source_of n) r) m []
+made_of-half z h true r m = refl
+made_of-half z h false r (Some n) = made_by-half z h (source_of n) r
+made_of-half z h false r None = refl
+
+-- what an operation makes after the fabric's entries it makes after the account
+made-half : (z : Start) (h : List Entry) (o : Op) (u : Outcome) (ms : List Message) → made z (fabric_of z.board h) o u ms ≡ made z h o u ms
+made-half z h (op.Route s) u ms = made_by-half z h s (run_of (op.Route s) u)
+made-half z h (op.Take i) u ms = made_of-half z h (is_escalating u) (run_of (op.Take i) u) (slice_get ms i)
+made-half z h _ u ms = refl
+
+-- so it leaves the same messages
+pub messages_after-half : (z : Start) (h : List Entry) (o : Op) (u : Outcome) (ms : List Message) → messages_after z (fabric_of z.board h) o u ms ≡ messages_after z h o u ms
+messages_after-half z h o u ms = ap (λ more. without (taken_in o u) ms ++ more) (made-half z h o u ms)
 
 -- the messages in flight are those of the fabric's entries
 pub flight-half : (z : Start) (h : List Entry) → flight z (fabric_of z.board h) ≡ flight z h
-flight-half z = half (λ x. is_fabric z.board x.op) (flight z) (λ x h so_far. λ i. so_far i ++ made_by-half z h (origin_of x.op) (run_of x.op x.outcome) i) (flight-skips z)
+flight-half z = half (λ x. is_fabric z.board x.op) (flight z) (λ x h so_far. ap (messages_after z (fabric_of z.board h) x.op x.outcome) so_far ∙ messages_after-half z h x.op x.outcome (flight z h)) (flight-skips z)
 
 -- a pass of e after the fabric's entries is the one after the account
 pub end_pass-half : (z : Start) (e payload : ℕ) (h : List Entry) → end_pass z (fabric_of z.board h) e payload ≡ end_pass z h e payload
@@ -242,7 +274,7 @@ hcall_reply-half z args h =
     else (if not (nat_lt c.lisn z.board.limits.sources && (eas-half z c.lisn h i).valid) then H_P2
     else (if c.priority == PRIORITY_MASKED then H_SUCCESS
     else (if not (nat_lt c.priority PRIORITY_RESERVED) then H_P4
-    else (if not (is_target z h c.target) then H_P3 else H_SUCCESS)))))
+    else (if not (nat_lt c.target z.board.limits.processors && is_connected-half z c.target h i) then H_P3 else H_SUCCESS)))))
 
 -- what says the same of an account as of its fabric entries says the same of accounts with the same ones
 pub same_fabric : {R : Type 0} (b : Board) (d : List Entry → R) (g h : List Entry) → ((f : List Entry) → d (fabric_of b f) ≡ d f) → fabric_of b g ≡ fabric_of b h → d g ≡ d h
@@ -255,7 +287,7 @@ outstanding_halves z g h s words same =
     λ i. forwarded i - same_fabric z.board (λ f. routes z f s) g h (routes-half z s) same i
 
 -- the messages in flight are the same after accounts with the same fabric entries
-same_flight : (z : Start) (g h : List Entry) → fabric_of z.board g ≡ fabric_of z.board h → flight z g ≡ flight z h
+pub same_flight : (z : Start) (g h : List Entry) → fabric_of z.board g ≡ fabric_of z.board h → flight z g ≡ flight z h
 same_flight z g h same = same_fabric z.board (flight z) g h (flight-half z) same
 
 -- a route of s answers the same after accounts with the same fabric entries, where a notice of s is outstanding after both or after neither
@@ -269,27 +301,3 @@ route_half z g h s same none =
 -- whether s is quiet is answered the same after accounts with the same fabric entries and as many outstanding notices of s
 pub quiet_half : (z : Start) (g h : List Entry) (s : ℕ) → fabric_of z.board g ≡ fabric_of z.board h → outstanding z g s ≡ outstanding z h s → quiet_answer z g s ≡ quiet_answer z h s
 quiet_half z g h s same notices = let messages = same_flight z g h same in λ i. quiet_by (notices i) (messages_of (messages i) s)
-
--- an operation of the fabric answers the same after accounts with the same fabric entries, where for a route a notice is outstanding after both or after neither
-fabric_answer_half : (z : Start) (g h : List Entry) (o : Op) → not (is_quiet o) ≡ true → fabric_of z.board g ≡ fabric_of z.board h → ((s : ℕ) → o ≡ op.Route s → (outstanding z g s == 0) ≡ (outstanding z h s == 0)) →
-    answer_on z g o (part_beside o) ≡ answer_on z h o (part_beside o)
-fabric_answer_half z g h (op.Quiet s) is same none = cc
-fabric_answer_half z g h (op.Route s) is same none = route_half z g h s same (none s refl)
-fabric_answer_half z g h (op.EndEsb e page offset store) is same none = same_fabric z.board (λ f. end_page_answer z f e page offset store) g h (end_page_answer-half z e page offset store) same
-fabric_answer_half z g h (op.Read e) is same none = same_fabric z.board (λ f. read_outcome z f e) g h (read_outcome-half z e) same
-fabric_answer_half z g h (op.Peek addr) is same none = same_fabric z.board (λ f. peek_outcome z f addr) g h (peek_outcome-half z addr) same
-fabric_answer_half z g h (op.Hcall number args) is same none = ap out.Reply (same_fabric z.board (λ f. hcall_reply z f args) g h (hcall_reply-half z args) same)
-fabric_answer_half z g h _ is same none = refl
-
--- an operation of the fabric is on no word, and not quiet
-no_access : (m : Option WordAccess) (other : Bool) → option_map_or (λ a. false) m other ≡ true → (m ≡ None) × (other ≡ true)
-no_access None other is = (refl, is)
-no_access (Some a) other is = cc
-
--- the legal outcome of an operation of the fabric is the same after accounts with the same fabric entries, where for a route a notice is outstanding after both or after neither
-pub legal_fabric_half : (z : Start) (g h : List Entry) (o : Op) → is_fabric z.board o ≡ true → fabric_of z.board g ≡ fabric_of z.board h → ((s : ℕ) → o ≡ op.Route s → (outstanding z g s == 0) ≡ (outstanding z h s == 0)) → legal z g o ≡ legal z h o
-legal_fabric_half z g h o is same none = let k = no_access (access_of z.board o) (not (is_quiet o)) is in rw k.0 (fabric_answer_half z g h o k.1 same none)
-
--- the legal outcome of an operation of the fabric that isn't a route depends on the fabric's entries alone
-pub fabric_half : (z : Start) (g h : List Entry) (o : Op) → is_fabric z.board o ≡ true → ((s : ℕ) → o ≢ op.Route s) → fabric_of z.board g ≡ fabric_of z.board h → legal z g o ≡ legal z h o
-fabric_half z g h o is no_route same = legal_fabric_half z g h o is same (λ s e. absurd (no_route s e))

@@ -25,6 +25,7 @@ use Rattle.xv_model.specs.end.Written.{written}
 use Rattle.xv_model.specs.end.Memory.{place, wrote_at, word_by}
 use Rattle.xv_model.specs.end.Reading.{taken}
 use Rattle.xv_model.specs.route.Flight.{flight}
+use Rattle.xv_model.specs.processor.Phases.{is_connected}
 use Rattle.xv_model.specs.laws.Queues.{KeepsUp, LeavesQueue, IsOwnQueue}
 use Rattle.xv_model.specs.laws.QueueExample.{one_source, one_page}
 use Rattle.xv_model.proofs.FreshPages.{zeros_are_fresh}
@@ -131,6 +132,7 @@ pub record AfterRounds (n : ℕ) (later : List Entry) : Type 0 where
   pub routed : routes z (account later) 0 ≡ n
   pub valid_eas : (eas z (account later) 0).valid ≡ true
   pub off : esn z (account later) 0 ≡ 1
+  pub connected : is_connected z (account later) 0 ≡ true
   pub none_flies : flight z (account later) ≡ []
   pub wrote : written z (account later) 0 ≡ up_to n
   pub took : taken (account later) 0 ≡ up_to n
@@ -189,6 +191,7 @@ none_after =
       routed = refl;
       valid_eas = refl;
       off = refl;
+      connected = refl;
       none_flies = refl;
       wrote = refl;
       took = refl;

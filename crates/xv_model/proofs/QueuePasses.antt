@@ -1,9 +1,8 @@
 -- The passes that write into a queue in a legal account, and what any entry leaves of it.
-use Rattle.std.proofs.Common.{ℕ, ◌≡◌, ◌==◌, ◌+◌, Bool, true, false, not, if◌then◌else◌, List, [], ◌∷◌, Option, Some, None, refl, sym, ◌∙◌, ap, ◌⊎◌, inl, inr, eq-eqb, ne_eqb, length}
+use Rattle.std.proofs.Common.{ℕ, ◌≡◌, ◌==◌, ◌+◌, Bool, true, false, not, if◌then◌else◌, List, [], ◌∷◌, slice_get, Option, Some, None, refl, sym, ◌∙◌, ap, ◌⊎◌, inl, inr, eq-eqb, ne_eqb, length}
 use Rattle.std.proofs.lemmas.Bool.{cases_eq}
 use Rattle.std.specs.Option.{option_map_or, option_or}
 use Rattle.xv_base.specs.Limits.{most_messages}
-use Rattle.xv_model.specs.declared.board.Board.{Board}
 use Rattle.xv_model.specs.declared.operations.Op.{Op}
 use Rattle.xv_model.specs.declared.operations.Op.TheVariants as op
 use Rattle.xv_model.specs.declared.outcomes.Wrote.{Wrote}
@@ -12,11 +11,12 @@ use Rattle.xv_model.specs.declared.outcomes.EndRun.TheVariants as run
 use Rattle.xv_model.specs.declared.outcomes.Routed.TheVariants.{NoSource, Masked, Run}
 use Rattle.xv_model.specs.declared.outcomes.Outcome.{Outcome}
 use Rattle.xv_model.specs.declared.outcomes.Outcome.TheVariants as out
+use Rattle.xv_model.specs.declared.messages.Message.{Message}
+use Rattle.xv_model.specs.declared.messages.Message.TheVariants as message
 use Rattle.xv_model.specs.declared.entries.Entry.{Entry}
 use Rattle.xv_model.specs.account.Start.{Start}
 use Rattle.xv_model.specs.account.Kinds.{run_of}
-use Rattle.xv_model.specs.account.Legal.{IsNext}
-use Rattle.xv_model.specs.board.Validity.{valid}
+use Rattle.xv_model.specs.account.Legal.{IsNext, legal}
 use Rattle.xv_model.specs.source.Notices.{routes, outstanding}
 use Rattle.xv_model.specs.source.Eas.{eas}
 use Rattle.xv_model.specs.end.Flags.{is_valid, enqueues}
@@ -26,6 +26,7 @@ use Rattle.xv_model.specs.end.Written.{wrote_in, payload_of, entered, written_co
 use Rattle.xv_model.specs.end.Memory.{place, wrote_at, write_of, word_in, zeroed_in, zero_in, word_by, word_at}
 use Rattle.xv_model.specs.route.Flight.{flight}
 use Rattle.xv_model.specs.route.Routing.{next_by, route_outcome}
+use Rattle.xv_model.specs.route.Taking.{taken_by}
 use Rattle.xv_model.proofs.RouteLaws.{route_answer}
 use Rattle.xv_model.proofs.QueueWords.{word_of, Sets}
 
@@ -55,11 +56,17 @@ route_writes z h s e =
     let c = end_config z h a.end in
     writes_by s e (routes z h s + 1) a.end (outstanding z h s == 0) (length (flight z h) == most_messages) a.valid a.masked (is_valid c) (enqueues c) (write_for z h s a.end) (next_by c (esn z h a.end))
 
--- an operation that a board has, and that wrote into a queue, is a route
-wrote_op : (b : Board) (o : Op) (u : Outcome) (e : ℕ) → valid b o ≡ true → wrote_in (run_of o u) ≡ Some e → (s : ℕ) × (o ≡ op.Route s)
-wrote_op b (op.Route s) u e v is = (s, refl)
-wrote_op b (op.Take i) u e v is = cc
-wrote_op b _ u e v is = cc
+-- what a take answers is no pass of an END
+take_writes_by : (z : Start) (h : List Entry) (m : Option Message) (e : ℕ) → wrote_in (run_of (op.Take 0) (option_map_or (taken_by z h) m out.NoMessage)) ≡ Some e → ⊥
+take_writes_by z h (Some (message.Present end flags vp priority esc esc_eisn origin)) e is = cc
+take_writes_by z h (Some (message.Escalate end flags esc esc_eisn origin)) e is = cc
+take_writes_by z h None e is = cc
+
+-- an operation that is legal, and that wrote into a queue, is a route
+wrote_op : (z : Start) (h : List Entry) (o : Op) (e : ℕ) → wrote_in (run_of o (legal z h o)) ≡ Some e → (s : ℕ) × (o ≡ op.Route s)
+wrote_op z h (op.Route s) e is = (s, refl)
+wrote_op z h (op.Take i) e is = absurd (take_writes_by z h (slice_get (flight z h) i) e is)
+wrote_op z h _ e is = absurd cc
 
 -- an entry is the pass of a source that wrote into the queue of e: its number there is one more than those that were written
 pub record IsPass (z : Start) (h : List Entry) (x : Entry) (e : ℕ) : Type 0 where
@@ -70,7 +77,7 @@ pub record IsPass (z : Start) (h : List Entry) (x : Entry) (e : ℕ) : Type 0 wh
 -- an entry of a legal account that wrote into the queue of e is such a pass
 pub pass_of : (z : Start) (h : List Entry) (x : Entry) (e : ℕ) → IsNext z h x → wrote_in (run_of x.op x.outcome) ≡ Some e → IsPass z h x e
 pass_of z h x e n is =
-    let o = wrote_op z.board x.op x.outcome e n.valid_op is in
+    let o = wrote_op z h x.op e (ap (λ u. wrote_in (run_of x.op u)) (sym n.outcome) ∙ is) in
     let answer = route_answer z h x o.0 n o.1 in
     let as_route : wrote_in (run_of (op.Route o.0) (route_outcome z h o.0)) ≡ Some e =
     sym (ap (λ v. wrote_in (run_of v x.outcome)) o.1 ∙ ap (λ u. wrote_in (run_of (op.Route o.0) u)) answer) ∙ is in

@@ -41,7 +41,7 @@ was_read n = reading n ∷ passed n
 
 -- the call is accepted
 telling_next : (n : ℕ) → AfterRounds n (since n) → IsNext z (account (since n)) (telling n)
-telling_next n a = record { actor = lit< tt; valid_op = refl; outcome = rw a.valid_eas refl }
+telling_next n a = record { actor = lit< tt; valid_op = refl; outcome = rw (a.valid_eas, a.connected) refl }
 
 -- the trigger forwards
 triggering_next : (n : ℕ) → n < 2 ^ 31 → AfterRounds n (since n) → IsNext z (account (told n)) (triggering n)
@@ -177,6 +177,7 @@ one_round n l a =
       forwarded = sums.0;
       routed = sums.1;
       valid_eas = refl;
+      connected = a.connected;
       off = stays_off (asks_state (end_config z (account (triggered n)) 0)) (esn z (account (triggered n)) 0) a.off;
       none_flies = simp append-nil a.none_flies;
       wrote = append-nil (written z (account (was_read n)) 0) ∙ append-nil (written z (account (passed n)) 0) ∙ wrote_passed n l a;

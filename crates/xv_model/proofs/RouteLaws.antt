@@ -1,7 +1,8 @@
 -- What becomes of notices in a legal account.
-use Rattle.std.proofs.Common.{ℕ, ◌≡◌, ◌==◌, ◌+◌, ◌≤◌, Bool, true, false, not, if◌then◌else◌, ◌&&◌, List, [], ◌∷◌, ◌++◌, length, Some, None, refl, sym, ◌∙◌, ap, subst, arith, append_assoc, append-nil, length-append}
+use Rattle.std.proofs.Common.{ℕ, ◌≡◌, ◌==◌, ◌+◌, ◌≤◌, Bool, true, false, not, if◌then◌else◌, ◌&&◌, List, [], ◌∷◌, ◌++◌, length, zero, suc, slice_get, Option, Some, None, refl, sym, ◌∙◌, ap, subst, arith, append_assoc, append-nil, length-append}
 use Rattle.std.proofs.lemmas.Bool.Decides.{nat_tests}
 use Rattle.std.specs.Option.{option_map_or}
+use Rattle.std.specs.List.{remove}
 use Rattle.xv_base.specs.Limits.{most_messages}
 use Rattle.xv_model.specs.declared.operations.EndConfig.{EndConfig}
 use Rattle.xv_model.specs.declared.operations.Op.{Op}
@@ -9,11 +10,14 @@ use Rattle.xv_model.specs.declared.operations.Op.TheVariants as op
 use Rattle.xv_model.specs.declared.outcomes.Wrote.{Wrote}
 use Rattle.xv_model.specs.declared.outcomes.Then.{Then}
 use Rattle.xv_model.specs.declared.outcomes.Then.TheVariants.{Coalesced, Silent, Present, Escalate}
+use Rattle.xv_model.specs.declared.outcomes.EndRun.{EndRun}
 use Rattle.xv_model.specs.declared.outcomes.EndRun.TheVariants as run
 use Rattle.xv_model.specs.declared.outcomes.Routed.{Routed}
 use Rattle.xv_model.specs.declared.outcomes.Routed.TheVariants.{NoSource, Masked, Run}
 use Rattle.xv_model.specs.declared.outcomes.Outcome.{Outcome}
 use Rattle.xv_model.specs.declared.outcomes.Outcome.TheVariants as out
+use Rattle.xv_model.specs.declared.messages.Message.{Message}
+use Rattle.xv_model.specs.declared.messages.Message.TheVariants as message
 use Rattle.xv_model.specs.declared.entries.Entry.{Entry}
 use Rattle.xv_model.specs.declared.board.Board.{Board}
 use Rattle.xv_model.specs.account.Start.{Start, start}
@@ -25,7 +29,7 @@ use Rattle.xv_model.specs.end.Descriptors.{end_config}
 use Rattle.xv_model.specs.end.EventStates.{esn}
 use Rattle.xv_model.specs.end.Written.{wrote_in, payload_of, entered, written, written_count}
 use Rattle.xv_model.specs.end.Memory.{wrote_at}
-use Rattle.xv_model.specs.route.Flight.{origin_of, messages_by, made_by, flight}
+use Rattle.xv_model.specs.route.Flight.{messages_by, made_by, source_of, escalation_of, messages_after, flight}
 use Rattle.xv_model.specs.route.Routing.{next_by, routed_by, route_outcome}
 use Rattle.xv_model.specs.laws.Triggers.{down_from}
 use Rattle.xv_model.specs.account.Legal.{IsLegal, IsNext, legal}
@@ -111,14 +115,41 @@ one_message Escalate e c s = omega arith
 one_message Coalesced e c s = omega arith
 one_message Silent e c s = omega arith
 
+-- a message that goes on is one message at most
+one_escalation : (escalates : Bool) (m : Message) (ms : List Message) → length ms ≤ 1 → length (if escalates then escalation_of m else ms) ≤ 1
+one_escalation true (message.Present e flags vp priority esc esc_eisn origin) ms l = omega arith
+one_escalation true (message.Escalate e flags esc esc_eisn origin) ms l = omega arith
+one_escalation false m ms l = l
+
+-- so is the pass of an END
+one_made : (z : Start) (h : List Entry) (s : ℕ) (r : Option EndRun) → length (made_by z h s r) ≤ 1
+one_made z h s (Some (run.Ran e wrote next)) = one_message next e (end_config z h e) s
+one_made z h s (Some (run.NoEnd e)) = omega arith
+one_made z h s None = omega arith
+
+-- where a message is taken, and one is made of it at most, there are no more than before
+taken_room : (f : Message → List Message) (few : (m : Message) → length (f m) ≤ 1) (ms : List Message) (i : ℕ) → length (remove ms i ++ option_map_or f (slice_get ms i) []) ≤ length ms
+taken_room f few [] zero = omega arith
+taken_room f few [] (suc i) = omega arith
+taken_room f few (m ∷ ms) zero = omega (arith, length-append ms (f m), few m)
+taken_room f few (m ∷ ms) (suc i) = let rest = taken_room f few ms i in omega arith
+
+-- nothing is made of a message that isn't taken
+none_made : (ms : List Message) (m : Option Message) → ms ++ option_map_or (λ n. []) m [] ≡ ms
+none_made ms (Some n) = append-nil ms
+none_made ms None = append-nil ms
+
 -- one more entry leaves the messages few enough
-room : (z : Start) (h : List Entry) (n : ℕ) (o : Op) (u : Outcome) → ((s k : ℕ) (r : Routed) → o ≡ op.Route s → u ≡ out.Routed k r → n + 1 ≤ most_messages) → n ≤ most_messages → n + length (made_by z h (origin_of o) (run_of o u)) ≤ most_messages
-room z h n (op.Route s) (out.Routed k (Run (run.Ran e wrote next))) w l =
-    let one = one_message next e (end_config z h e) s in
-    let free = w s k _ refl refl in
-    omega arith
-room z h n (op.Route s) _ w l = omega arith
-room z h n _ u w l = omega arith
+room : (z : Start) (h : List Entry) (o : Op) (u : Outcome) (ms : List Message) → ((s k : ℕ) (r : Routed) → o ≡ op.Route s → u ≡ out.Routed k r → length ms + 1 ≤ most_messages) → length ms ≤ most_messages → length (messages_after z h o u ms) ≤ most_messages
+room z h (op.Route s) (out.Routed k (Run r)) ms w l =
+    let one = one_made z h s (Some r) in
+    let free = w s k (Run r) refl refl in
+    omega (arith, length-append ms (made_by z h s (Some r)), one, free)
+room z h (op.Route s) _ ms w l = omega (arith, ap length (append-nil ms))
+room z h (op.Take i) (out.Present v p presented escalates) ms w l = omega (arith, taken_room (λ m. if escalates then escalation_of m else []) (λ m. one_escalation escalates m [] (omega arith)) ms i)
+room z h (op.Take i) (out.Escalated e r) ms w l = omega (arith, taken_room (λ m. made_by z h (source_of m) r) (λ m. one_made z h (source_of m) r) ms i)
+room z h (op.Take i) _ ms w l = omega (arith, ap length (none_made ms (slice_get ms i)))
+room z h _ u ms w l = omega (arith, ap length (append-nil ms))
 
 -- where a route routed a notice there is room for a message
 routed_room : (z : Start) (h : List Entry) (s k : ℕ) (r : Routed) → route_outcome z h s ≡ out.Routed k r → length (flight z h) ≤ most_messages → length (flight z h) + 1 ≤ most_messages
@@ -132,8 +163,7 @@ pub flight_within : (z : Start) (h : List Entry) → IsLegal z h → length z.fl
 flight_within z [] l w = w
 flight_within z (x ∷ h) l w =
     let before : length (flight z h) ≤ most_messages = flight_within z h l.0 w in
-    let now = room z h (length (flight z h)) x.op x.outcome (λ s k r e f. routed_room z h s k r (sym (route_answer z h x s l.1 e) ∙ f) before) before in
-    omega (arith, length-append (flight z h) (made_by z h (origin_of x.op) (run_of x.op x.outcome)), now)
+    room z h x.op x.outcome (flight z h) (λ s k r e f. routed_room z h s k r (sym (route_answer z h x s l.1 e) ∙ f) before) before
 
 -- an entry that has a route number of s is a route of s that routed a notice
 pub route_number-is : (s k : ℕ) (o : Op) (u : Outcome) → route_number s o u ≡ k ∷ [] → (r : Routed) × (o ≡ op.Route s) × (u ≡ out.Routed k r)

@@ -1,10 +1,16 @@
 -- The outcomes of a legal account are well-formed.
-use Rattle.std.proofs.Common.{ℕ, ◌≡◌, ◌==◌, ◌+◌, ◌<◌, ◌&&◌, Bool, true, false, if◌then◌else◌, List, length, Option, Some, None, refl, sym, subst}
+use Rattle.std.proofs.Common.{ℕ, ◌≡◌, ◌==◌, ◌+◌, ◌<◌, ◌&&◌, Bool, true, false, not, if◌then◌else◌, ◌-◌, List, length, slice_get, Option, Some, None, refl, sym, subst}
 use Rattle.std.specs.Option.{option_map_or}
 use Rattle.xv_base.specs.Limits.{most_messages, most_forwards}
 use Rattle.xv_model.specs.declared.operations.Op.{Op}
 use Rattle.xv_model.specs.declared.operations.Op.TheVariants as op
 use Rattle.xv_model.specs.declared.outcomes.Outcome.{Outcome}
+use Rattle.xv_model.specs.declared.outcomes.Outcome.TheVariants as out
+use Rattle.xv_model.specs.declared.outcomes.MoveRefused.TheVariants.{RingBusy, NoContext}
+use Rattle.xv_model.specs.declared.messages.Message.{Message}
+use Rattle.xv_model.specs.declared.messages.Message.TheVariants as message
+use Rattle.xv_model.specs.declared.tima.RingOp.{RingOp}
+use Rattle.xv_model.specs.declared.tima.RingOp.TheVariants.{Load, SetCppr, Accept, Inject, Push, Pull}
 use Rattle.xv_model.specs.declared.entries.Entry.{Entry}
 use Rattle.xv_model.specs.account.Start.{Start}
 use Rattle.xv_model.specs.account.Kinds.{WordAccess, access_of, Word, part_beside}
@@ -13,6 +19,12 @@ use Rattle.xv_model.specs.source.Pairs.{pq, asserted}
 use Rattle.xv_model.specs.source.Notices.{forwards, outstanding}
 use Rattle.xv_model.specs.route.Flight.{flight}
 use Rattle.xv_model.specs.route.Quiet.{messages_of}
+use Rattle.xv_model.specs.route.Taking.{taken_by}
+use Rattle.xv_model.specs.processor.Phases.{cam_of, is_connected, is_saved, phase, user_of}
+use Rattle.xv_model.specs.processor.RingOps.{ring_op}
+use Rattle.xv_model.specs.processor.Registers.{ring}
+use Rattle.xv_model.specs.processor.Moves.{is_pulled, is_restored, is_cam, on_of}
+use Rattle.xv_model.specs.processor.Accesses.{acknowledged, ring_outcome}
 use Rattle.xv_model.specs.board.Boards.{is_level}
 use Rattle.xv_model.specs.account.Legal.{IsLegal, IsNext, answer_by, cell_after, answer_on}
 use Rattle.xv_model.specs.account.Outcomes.{IsWellFormed}
@@ -34,6 +46,32 @@ well_formed_if false m n v w = w
 cell_well_formed : (c : Cell) (q n : ℕ) → q < 4 → c.pair < 4 → IsWellFormed (answer_by c q n)
 cell_well_formed c q n l m = well_formed_if c.forwards _ _ (well_formed_if (n == most_forwards) _ _ tt (l, m)) (l, m)
 
+-- so is what a take answers
+take_well_formed : (z : Start) (h : List Entry) (m : Option Message) → IsWellFormed (option_map_or (taken_by z h) m out.NoMessage)
+take_well_formed z h (Some (message.Present e flags vp priority esc esc_eisn origin)) = tt
+take_well_formed z h (Some (message.Escalate e flags esc esc_eisn origin)) = tt
+take_well_formed z h None = tt
+
+-- what a restore answers of a saved processor
+restore_well_formed : (user : Option ℕ) → IsWellFormed (option_map_or (λ u. out.Refused (RingBusy u)) user out.Fine)
+restore_well_formed (Some u) = tt
+restore_well_formed None = tt
+
+-- what is answered where a processor is on a thread
+on_well_formed : (m : Option ℕ) (f : ℕ → Outcome) → ((v : ℕ) → IsWellFormed (f v)) → IsWellFormed (option_map_or f m (out.Refused NoContext))
+on_well_formed (Some v) f w = w v
+on_well_formed None f w = tt
+
+-- and what an access to the TIMA answers
+tima_well_formed : (z : Start) (h : List Entry) (t : ℕ) (m : Option RingOp) → IsWellFormed (option_map_or (ring_outcome z h t) m out.BadAccess)
+tima_well_formed z h t None = tt
+tima_well_formed z h t (Some (Load at size)) = tt
+tima_well_formed z h t (Some (SetCppr value)) = on_well_formed (on_of z h t) (λ v. out.Stored) (λ v. tt)
+tima_well_formed z h t (Some (Inject priority)) = on_well_formed (on_of z h t) (λ v. out.Stored) (λ v. tt)
+tima_well_formed z h t (Some Accept) = on_well_formed (on_of z h t) (λ v. out.Value (acknowledged (ring z h t))) (λ v. tt)
+tima_well_formed z h t (Some (Push cam)) = well_formed_if (not (is_cam z h cam)) _ _ tt (well_formed_if (not (is_restored t (phase z h (cam - cam_of 0)))) _ _ tt tt)
+tima_well_formed z h t (Some Pull) = on_well_formed (on_of z h t) (λ v. out.Value (cam_of v)) (λ v. tt)
+
 -- an answer of an operation on no word is well-formed
 fabric_well_formed : (z : Start) (h : List Entry) (o : Op) → ((e : ℕ) → HasPairs z h e) → IsWellFormed (answer_on z h o (part_beside o))
 fabric_well_formed z h (op.Quiet s) w = well_formed_if ((outstanding z h s == 0) && (messages_of (flight z h) s == 0)) _ _ tt tt
@@ -48,6 +86,11 @@ fabric_well_formed z h (op.Read e) w =
     let c = end_config z h e in
     let j = c.start + taken_count z h e in
     well_formed_if (is_valid c && enqueues c) _ _ (well_formed_if (top_bit (word_at z h (place c j)) == generation c j) _ _ tt tt) tt
+fabric_well_formed z h (op.Take i) w = take_well_formed z h (slice_get (flight z h) i)
+fabric_well_formed z h (op.Connect v) w = tt
+fabric_well_formed z h (op.Restore v t) w = well_formed_if (not (is_connected z h v)) _ _ tt (well_formed_if (not (is_saved (phase z h v))) _ _ tt (restore_well_formed (user_of z h t)))
+fabric_well_formed z h (op.Save v) w = well_formed_if (not (is_connected z h v)) _ _ tt (well_formed_if (not (is_pulled (phase z h v))) _ _ tt tt)
+fabric_well_formed z h (op.Tima t page offset size access) w = tima_well_formed z h t (ring_op page offset size access)
 fabric_well_formed z h (op.Peek addr) w = well_formed_if (fits (ram_size z.board) addr 4) _ _ tt tt
 fabric_well_formed z h (op.Zero addr len) w = well_formed_if (fits (ram_size z.board) addr len) _ _ tt tt
 fabric_well_formed z h _ w = tt

@@ -2,3 +2,5 @@ pub mod Triggers
 pub mod Entering
 pub mod Queues
 pub mod QueueExample
+pub mod Pending
+pub mod Acknowledgements

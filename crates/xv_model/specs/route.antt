@@ -1,3 +1,4 @@
 pub mod Routing
 pub mod Flight
 pub mod Quiet
+pub mod Taking

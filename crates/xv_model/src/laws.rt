@@ -1,7 +1,9 @@
 //! Laws of every legal account. The functions do nothing; their contracts are the laws.
 
 ghost use Rattle.xv_model.specs.account.Scripts.{EachHasAccount, OneAccount};
+ghost use Rattle.xv_model.specs.laws.Acknowledgements.{EachAcceptsMostFavoured, EachAnswersAccepted, EachLeavesAll, EachLeavesAlone};
 ghost use Rattle.xv_model.specs.laws.Entering.{EachEntersOnce, RoutedInOrder, RoutedOnceForwarded};
+ghost use Rattle.xv_model.specs.laws.Pending.{EachHasOneUser, EachIsInRing, EachIsKeptOff, EachIsShown, EachIsUser, EachStaysPending};
 ghost use Rattle.xv_model.specs.laws.QueueExample.{ReadsTwoQueues};
 ghost use Rattle.xv_model.specs.laws.Queues.{EachReadsAsWritten, EachReadsNext, StartIsFresh, ZeroedIsFresh, ZerosAreFresh};
 ghost use Rattle.xv_model.specs.laws.Triggers.{CoalescedComesAgain, EachTriggerAccounted, NumberedInOrder};
@@ -47,4 +49,24 @@ pub fn fresh_pages()
 /// Of an account that meets what the laws of queues ask: two whole queues are read in it.
 pub fn queue_example()
     ensures example { ReadsTwoQueues }
+{}
+
+/// Of what is pending for a processor: wherever its context is, its IPB and its backlog show it, and a priority that
+/// was presented to it and not lost stays so until it is acknowledged, or the processor's state is set without it.
+pub fn pending()
+    ensures one_user { EachHasOneUser }
+    ensures users { EachIsUser }
+    ensures kept_off { EachIsKeptOff }
+    ensures in_ring { EachIsInRing }
+    ensures shown { EachIsShown }
+    ensures stays { EachStaysPending }
+{}
+
+/// Of acknowledgements: one is accepted exactly where a processor is on the thread and a priority is pending that is
+/// more favoured than its CPPR; then it answers the most favoured one, which alone isn't pending afterwards.
+pub fn acknowledgements()
+    ensures most_favoured { EachAcceptsMostFavoured }
+    ensures answers { EachAnswersAccepted }
+    ensures leaves_alone { EachLeavesAlone }
+    ensures leaves_all { EachLeavesAll }
 {}

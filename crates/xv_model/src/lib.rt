@@ -7,6 +7,7 @@ pub mod eas;
 pub mod entries;
 pub mod hypercalls;
 pub mod known;
+pub mod kvm;
 pub mod laws;
 pub mod messages;
 pub mod operations;
@@ -14,4 +15,5 @@ pub mod outcomes;
 pub mod pages;
 #[cfg(test)]
 mod tests;
+pub mod tima;
 pub mod validity;

@@ -4,7 +4,9 @@ mod configurations;
 mod flags;
 mod hypercalls;
 mod operations;
+mod processors;
 mod ranges;
+mod tima;
 
 use crate::board::{Board, Spans};
 use xv_base::Limits;

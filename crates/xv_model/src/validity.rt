@@ -1,12 +1,16 @@
 //! Which operations a board has.
 
 ghost use Rattle.std.specs.Prelude.{◌≡◌, nat_lt};
-ghost use Rattle.xv_model.specs.board.Validity.{valid as is_valid, has_op, end_count, is_queue_shift, is_queue as may_be_queue, has_queue as has_its_queue, never_escalates, has_nothing, notifies_one, valid_config as may_be_config};
+ghost use Rattle.xv_model.specs.board.Validity.{valid as is_valid, has_op, end_count, is_queue_shift, is_queue as may_be_queue, has_queue as has_its_queue, never_escalates, has_nothing, notifies_one, valid_config as may_be_config, is_cam_word as may_be_cam_word, has_tima_load, has_tima_store, has_access as has_its_access};
 
 use crate::board::Board;
 use crate::hypercalls::H_INT_SET_SOURCE_CONFIG;
-use crate::operations::{EndConfig, EndFlags, Op, PqOp};
+use crate::operations::{Access, EndConfig, EndFlags, Op, PqOp};
 use crate::pages::END_PAGES;
+use crate::tima::{
+    CAM_FIRST, CAM_VALID, TM_ACKNOWLEDGE, TM_HV_PAGE, TM_OS_CAM, TM_OS_CPPR, TM_OS_PAGE,
+    TM_PULL_CONTEXT, TM_QW1_OS, TM_SET_PENDING,
+};
 use bitflags::Flags;
 use xv_base::limits::ENDS_PER_PROCESSOR;
 
@@ -98,6 +102,44 @@ pub fn valid_config(board: &Board, config: &EndConfig) -> bool
     }
 }
 
+/// Whether a value is the CAM word of a processor, with its valid bit.
+fn is_cam_word(board: &Board, value: u64) -> bool
+    ensures { result ≡ may_be_cam_word board.now value }
+{
+    let first = CAM_VALID as u64 + CAM_FIRST as u64;
+    first <= value && value < first + board.limits.processors as u64
+}
+
+/// Whether a load from the TIMA is built.
+fn loads(page: u8, offset: u16, size: u8) -> bool
+    ensures { result ≡ has_tima_load page offset size }
+{
+    (page == TM_OS_PAGE && offset == TM_QW1_OS && size == 8)
+        || (page == TM_OS_PAGE && offset == TM_ACKNOWLEDGE && size == 2)
+        || (page == TM_HV_PAGE && offset == TM_PULL_CONTEXT && size == 4)
+}
+
+/// Whether a store to the TIMA is built.
+fn stores(board: &Board, page: u8, offset: u16, size: u8, value: u64) -> bool
+    ensures { result ≡ has_tima_store board.now page offset size value }
+{
+    (page == TM_OS_PAGE
+        && (offset == TM_OS_CPPR || offset == TM_SET_PENDING)
+        && size == 1
+        && value < 1 << 8)
+        || (page == TM_HV_PAGE && offset == TM_OS_CAM && size == 4 && is_cam_word(board, value))
+}
+
+/// Whether an access to the TIMA is built.
+fn has_access(board: &Board, page: u8, offset: u16, size: u8, access: Access) -> bool
+    ensures { result ≡ has_its_access board.now page offset size access }
+{
+    match access {
+        Access::Load => loads(page, offset, size),
+        Access::Store { value } => stores(board, page, offset, size, value),
+    }
+}
+
 /// Whether each number of an operation is in range on a board. It is false for an operation that isn't
 /// built yet.
 pub fn valid(board: &Board, op: &Op) -> bool
@@ -111,7 +153,16 @@ pub fn valid(board: &Board, op: &Op) -> bool
         Op::EndSet { e, config } => has_end(board, *e) && valid_config(board, config),
         Op::Hcall { number, args: _ } => *number == H_INT_SET_SOURCE_CONFIG,
         Op::Read { e } => has_end(board, *e),
-        Op::Peek { .. } | Op::Zero { .. } => true,
+        Op::Take { .. } | Op::Peek { .. } | Op::Zero { .. } => true,
+        Op::Connect { v } | Op::Save { v } => *v < board.limits.processors,
+        Op::Restore { v, t } => *v < board.limits.processors && *t < board.limits.threads,
+        Op::Tima {
+            t,
+            page,
+            offset,
+            size,
+            access,
+        } => { *t < board.limits.threads && has_access(board, *page, *offset, *size, *access) }
         _ => false,
     }
 }

@@ -7,12 +7,12 @@ use Rattle.xv_model.specs.declared.messages.Message.TheVariants as message
 use Rattle.xv_model.specs.declared.entries.Entry.{Entry}
 use Rattle.xv_model.specs.account.Start.{Start}
 use Rattle.xv_model.specs.source.Notices.{all_outstanding}
-use Rattle.xv_model.specs.end.Flags.{has_bit}
+use Rattle.xv_model.specs.end.Flags.{may_escalate}
 use Rattle.xv_model.specs.route.Flight.{flight}
 
 -- how many messages may come of a message, itself among them
 abbrev pub weight_of : Message → ℕ
-weight_of (message.Present e flags vp priority esc esc_eisn origin) = if has_bit flags.0 16 then 3 else 1
+weight_of (message.Present e flags vp priority esc esc_eisn origin) = if may_escalate flags then 3 else 1
 weight_of (message.Escalate e flags esc esc_eisn origin) = 2
 
 abbrev pub weight : List Message → ℕ

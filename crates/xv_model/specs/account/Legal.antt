@@ -18,6 +18,9 @@ use Rattle.xv_model.specs.end.Pages.{end_page_answer}
 use Rattle.xv_model.specs.end.Reading.{read_outcome}
 use Rattle.xv_model.specs.route.Routing.{route_outcome}
 use Rattle.xv_model.specs.route.Quiet.{quiet_answer}
+use Rattle.xv_model.specs.route.Taking.{take_outcome}
+use Rattle.xv_model.specs.processor.Moves.{connect_outcome, restore_outcome, save_outcome}
+use Rattle.xv_model.specs.processor.Accesses.{tima_outcome}
 use Rattle.xv_model.specs.call.Hypercalls.{hcall_reply}
 use Rattle.xv_model.specs.board.Validity.{valid}
 
@@ -41,6 +44,11 @@ fabric_answer z h (op.Esb s page offset store) = untouched_answer store
 fabric_answer z h (op.EndEsb e page offset store) = end_page_answer z h e page offset store
 fabric_answer z h (op.EndSet e c) = out.Fine
 fabric_answer z h (op.Hcall number args) = out.Reply (hcall_reply z h args)
+fabric_answer z h (op.Take i) = take_outcome z h i
+fabric_answer z h (op.Connect v) = connect_outcome z h v
+fabric_answer z h (op.Restore v t) = restore_outcome z h v t
+fabric_answer z h (op.Save v) = save_outcome z h v
+fabric_answer z h (op.Tima t page offset size access) = tima_outcome z h t page offset size access
 fabric_answer z h (op.Read e) = read_outcome z h e
 fabric_answer z h (op.Peek addr) = peek_outcome z h addr
 fabric_answer z h (op.Zero addr len) = zero_outcome z.board addr len

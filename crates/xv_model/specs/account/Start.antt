@@ -26,7 +26,7 @@ pub record Start : Type 0 where
   pub taken_count : ℕ → ℕ
   -- of an address in memory
   pub word_at : ℕ → ℕ
-  -- of a processor
+  -- of a processor; its CPPR and IPB are those of its thread's ring where its context uses one, and else those that are saved
   pub servers : ℕ
   pub is_connected : ℕ → Bool
   pub phase : ℕ → Phase

@@ -3,7 +3,10 @@ use Rattle.std.specs.Prelude.{ℕ, ◌==◌, ◌+◌, ◌*◌, ◌^◌, ◌%◌,
 use Rattle.xv_base.specs.Limits.{ends_per_processor}
 use Rattle.xv_model.specs.declared.hypercalls.TheConstants.{H_INT_SET_SOURCE_CONFIG}
 use Rattle.xv_model.specs.declared.pages.TheConstants.{END_PAGES}
+use Rattle.xv_model.specs.declared.tima.TheConstants.{TM_HV_PAGE, TM_OS_PAGE, TM_QW1_OS, TM_OS_CPPR, TM_OS_CAM, TM_ACKNOWLEDGE, TM_SET_PENDING, TM_PULL_CONTEXT, CAM_VALID, CAM_FIRST}
 use Rattle.xv_model.specs.declared.board.Board.{Board}
+use Rattle.xv_model.specs.declared.operations.Access.{Access}
+use Rattle.xv_model.specs.declared.operations.Access.TheVariants.{Load, Store}
 use Rattle.xv_model.specs.declared.operations.PqOp.{PqOp}
 use Rattle.xv_model.specs.declared.operations.PqOp.TheVariants.{Trigger, Eoi, Get, Set, Raise, Lower, Init}
 use Rattle.xv_model.specs.declared.operations.EndConfig.{EndConfig}
@@ -62,6 +65,35 @@ notifies_one b c = nat_lt c.flags.0 16 && (nat_lt c.vp b.limits.processors && (n
 abbrev pub valid_config : Board → EndConfig → Bool
 valid_config b c = (c.start == 0) && (has_queue b c && (if is_valid c then notifies_one b c else has_nothing c))
 
+-- whether a number is that of a processor, and whether it is that of a thread
+abbrev pub has_processor : Board → ℕ → Bool
+has_processor b v = nat_lt v b.limits.processors
+
+abbrev pub has_thread : Board → ℕ → Bool
+has_thread b t = nat_lt t b.limits.threads
+
+-- whether a value is the CAM word of a processor of the board, with its valid bit
+abbrev pub is_cam_word : Board → ℕ → Bool
+is_cam_word b value = nat_le (CAM_VALID + CAM_FIRST) value && nat_lt value (CAM_VALID + CAM_FIRST + b.limits.processors)
+
+-- whether a load from the TIMA is one that is built: the registers of the OS ring, an acknowledgement, a pull
+abbrev pub has_tima_load : ℕ → ℕ → ℕ → Bool
+has_tima_load page offset size =
+    ((page == TM_OS_PAGE) && ((offset == TM_QW1_OS) && (size == 8)))
+    || (((page == TM_OS_PAGE) && ((offset == TM_ACKNOWLEDGE) && (size == 2)))
+    || ((page == TM_HV_PAGE) && ((offset == TM_PULL_CONTEXT) && (size == 4))))
+
+-- whether a store to it is one: CPPR, a priority that is made pending, a push
+abbrev pub has_tima_store : Board → ℕ → ℕ → ℕ → ℕ → Bool
+has_tima_store b page offset size value =
+    ((page == TM_OS_PAGE) && (((offset == TM_OS_CPPR) || (offset == TM_SET_PENDING)) && ((size == 1) && nat_lt value (2 ^ 8))))
+    || ((page == TM_HV_PAGE) && ((offset == TM_OS_CAM) && ((size == 4) && is_cam_word b value)))
+
+-- whether an access to it is one
+abbrev pub has_access : Board → ℕ → ℕ → ℕ → Access → Bool
+has_access b page offset size Load = has_tima_load page offset size
+has_access b page offset size (Store value) = has_tima_store b page offset size value
+
 -- whether an operation is built, and each of its numbers is in range
 abbrev pub valid : Board → Op → Bool
 valid b (op.Pq s o) = nat_lt s b.limits.sources && has_op (is_level b s) o
@@ -70,6 +102,11 @@ valid b (op.EndEsb e page offset store) = nat_lt e (end_count b) && nat_lt page 
 valid b (op.Route s) = nat_lt s b.limits.sources
 valid b (op.EndSet e c) = nat_lt e (end_count b) && valid_config b c
 valid b (op.Hcall number args) = number == H_INT_SET_SOURCE_CONFIG
+valid b (op.Take i) = true
+valid b (op.Connect v) = has_processor b v
+valid b (op.Restore v t) = has_processor b v && has_thread b t
+valid b (op.Save v) = has_processor b v
+valid b (op.Tima t page offset size access) = has_thread b t && has_access b page offset size access
 valid b (op.Read e) = nat_lt e (end_count b)
 valid b (op.Peek addr) = true
 valid b (op.Zero addr len) = true

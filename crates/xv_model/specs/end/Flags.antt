@@ -2,10 +2,19 @@
 use Rattle.std.specs.Prelude.{ℕ, ◌==◌, Bool}
 use Rattle.std.specs.Int.RustNames.{bit_and}
 use Rattle.xv_model.specs.declared.operations.EndConfig.{EndConfig}
+use Rattle.xv_model.specs.declared.operations.EndFlags.{EndFlags}
 
 -- whether a number has a bit
 abbrev pub has_bit : ℕ → ℕ → Bool
 has_bit n bit = bit_and n bit == bit
+
+-- b: a presentation that doesn't reach its processor on a thread is kept in its backlog
+abbrev pub keeps_backlog : EndFlags → Bool
+keeps_backlog flags = has_bit flags.0 8
+
+-- e: what isn't delivered escalates
+abbrev pub may_escalate : EndFlags → Bool
+may_escalate flags = has_bit flags.0 16
 
 -- v: the END is valid
 abbrev pub is_valid : EndConfig → Bool
@@ -19,9 +28,9 @@ enqueues c = has_bit c.flags.0 2
 abbrev pub always_notifies : EndConfig → Bool
 always_notifies c = has_bit c.flags.0 4
 
--- e: what isn't delivered escalates
+-- e, of an END
 abbrev pub escalates : EndConfig → Bool
-escalates c = has_bit c.flags.0 16
+escalates c = may_escalate c.flags
 
 -- s: it presents nothing
 abbrev pub is_silent : EndConfig → Bool

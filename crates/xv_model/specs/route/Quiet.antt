@@ -3,16 +3,10 @@ use Rattle.std.specs.Prelude.{ℕ, ◌==◌, ◌+◌, ◌&&◌, if◌then◌else
 use Rattle.xv_model.specs.declared.outcomes.Outcome.{Outcome}
 use Rattle.xv_model.specs.declared.outcomes.Outcome.TheVariants as out
 use Rattle.xv_model.specs.declared.messages.Message.{Message}
-use Rattle.xv_model.specs.declared.messages.Message.TheVariants as message
 use Rattle.xv_model.specs.declared.entries.Entry.{Entry}
 use Rattle.xv_model.specs.account.Start.{Start}
 use Rattle.xv_model.specs.source.Notices.{outstanding}
-use Rattle.xv_model.specs.route.Flight.{flight}
-
--- the source that a message comes from
-abbrev pub source_of : Message → ℕ
-source_of (message.Present e flags vp priority esc esc_eisn origin) = origin
-source_of (message.Escalate e flags esc esc_eisn origin) = origin
+use Rattle.xv_model.specs.route.Flight.{source_of, flight}
 
 -- how many of some messages come from s
 abbrev pub messages_of : List Message → ℕ → ℕ
