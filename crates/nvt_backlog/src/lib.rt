@@ -8,4 +8,4 @@ mod vp;
 mod vps;
 
 pub use vp::Vp;
-pub use vps::{EINVAL, Vps};
+pub use vps::Vps;

@@ -2,12 +2,13 @@
 
 ghost use Rattle.std.specs.Prelude.{◌<◌, IsTrue, length};
 
-use crate::{EINVAL, Vp, Vps};
+use crate::{Vp, Vps};
 use std::alloc::Global;
 use std::process::Abort;
 use std::test::Fail;
 use xv_base::{Limits, NoMemory};
 use xv_model::board::{Board, Span, Spans};
+use xv_model::kvm::EINVAL;
 use xv_model::outcomes::Phase;
 
 /// The processors of a board, of which some are unconnected. It has fewer threads than processors.

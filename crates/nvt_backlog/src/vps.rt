@@ -9,11 +9,7 @@ use std::alloc::Global;
 use std::marker::Model;
 use xv_base::NoMemory;
 use xv_model::board::Board;
-
-/// An argument is invalid: the error number of Linux's include/uapi/asm-generic/errno-base.h, negated as the
-/// kernel answers it. A connection is refused so where the number isn't below that of servers (Linux's
-/// arch/powerpc/kvm/book3s_xive_native.c, kvmppc_xive_native_connect_vcpu).
-pub const EINVAL: i32 = -22;
+use xv_model::kvm::EINVAL;
 
 /// The virtual processors of a board, and the number of servers, below which those are that can be connected
 /// (KVM_DEV_XIVE_NR_SERVERS). Each call leaves all other processors as they were.
@@ -105,8 +101,9 @@ impl Vps {
         self.vps[v as usize] = vp;
     }
 
-    /// Connects a processor, and answers 0, also where it was connected before; its context stays. [`EINVAL`]
-    /// exactly where its number isn't below that of servers, and then nothing changes.
+    /// Connects a processor, and answers 0, also where it was connected before; its context stays.
+    /// [`xv_model::kvm::EINVAL`] exactly where its number isn't below that of servers (Linux's
+    /// arch/powerpc/kvm/book3s_xive_native.c, kvmppc_xive_native_connect_vcpu), and then nothing changes.
     pub fn connect(&mut self, v: u32) -> i32
         requires { v < length self.old.vps }
         ensures refused { (result ≡ EINVAL) ↔ (self.old.servers ≤ v) }

@@ -7,12 +7,13 @@ use Rattle.std.proofs.Math.ListN.{length-set}
 use Rattle.xv_base.specs.Limits.{most_processors}
 use Rattle.xv_model.specs.declared.outcomes.Phase.{Phase}
 use Rattle.xv_model.specs.declared.outcomes.Phase.TheVariants.{Saved, Restored, On, Pulled}
+use Rattle.xv_model.specs.processor.Phases.{cam_of, thread_of}
 use Rattle.nvt_backlog.specs.declared.vp.Vp.{Vp}
 use Rattle.nvt_backlog.specs.Vps.{saved_vp, vp_in}
 use Rattle.thread_context.specs.declared.ring.RingRecord.{RingRecord}
 use Rattle.thread_context.specs.Ring.{is_valid}
 use Rattle.thread_context.specs.Rings.{free_ring, ring_in}
-use Rattle.presenter.specs.Contexts.{AreFit, IsNamed, Uses, cam_of, thread_of, valid_cam_of}
+use Rattle.presenter.specs.Contexts.{AreFit, IsNamed, Uses, pulled_cam_of}
 
 pub none_some : (u : ℕ) → None ≡ Some u → ⊥
 none_some u e = cc
@@ -37,8 +38,8 @@ ring_there rings t u r other = get_or-set_other rings t u r free_ring other
 abbrev pub cam_at : Phase → ℕ → ℕ
 cam_at Saved v = 0
 cam_at (Restored t) v = 0
-cam_at (On t) v = valid_cam_of v
-cam_at (Pulled t) v = cam_of v
+cam_at (On t) v = cam_of v
+cam_at (Pulled t) v = pulled_cam_of v
 
 -- only the CAM word of a processor on its thread is valid
 valid_on : (p : Phase) (v t : ℕ) → v < most_processors → ((u : ℕ) → thread_of p ≡ Some u → u ≡ t) → is_valid (cam_at p v) ≡ true → p ≡ On t

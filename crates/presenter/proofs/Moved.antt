@@ -8,15 +8,17 @@ use Rattle.xv_model.specs.declared.board.Board.{Board}
 use Rattle.std.proofs.lemmas.Bool.Decides.{nat_tests}
 use Rattle.std.proofs.Math.ListN.{length-set}
 use Rattle.xv_model.specs.declared.outcomes.Phase.TheVariants.{Saved, Restored, On, Pulled}
+use Rattle.xv_model.specs.processor.Phases.{cam_of, thread_of}
+use Rattle.xv_model.specs.processor.Priorities.{has_priority}
 use Rattle.nvt_backlog.specs.declared.vp.Vp.{Vp}
 use Rattle.nvt_backlog.specs.Vps.{AreFirst, saved_vp, vp_in}
 use Rattle.thread_context.specs.declared.ring.RingRecord.{RingRecord}
-use Rattle.thread_context.specs.Priorities.{is_pending, with_pending}
+use Rattle.thread_context.specs.Priorities.{with_pending}
 use Rattle.thread_context.specs.Ring.{is_valid}
 use Rattle.thread_context.specs.Rings.{free_ring, loaded, pending_added, pulled, pushed, ring_in, with_ipb}
 use Rattle.thread_context.proofs.Effects.{after_add}
 use Rattle.thread_context.proofs.Pending.{with_one}
-use Rattle.presenter.specs.Contexts.{AreFit, IsUser, KeepsPending, Uses, cam_of, ipb_in, is_pending_for, named_by, thread_of, valid_cam_of}
+use Rattle.presenter.specs.Contexts.{AreFit, IsUser, KeepsPending, Uses, ipb_in, is_pending_for, named_by, pulled_cam_of}
 use Rattle.presenter.specs.Moves.{backlogged, on, pulled_from, restored, saved_from}
 use Rattle.presenter.proofs.Fitting.{IsMove, cam_at, cams_set, fits, none_some, phases_set, ring_here, same_places, same_some, vp_here, vp_there}
 use Rattle.presenter.proofs.Keeping.{keeps, off_thread, on_thread, or_false, pending_of, pending_there, taken_in}
@@ -48,7 +50,7 @@ restores vps vps' rings rings' v t f l inside saved free e g =
       cam = refl;
     } in
     whole_at vps vps' rings rings' v t (restored t vp) r f m
-    (λ q. ap (λ (y : RingRecord). is_pending y.ipb q || is_pending vp.backlog q) (ring_here rings t r inside) ∙ sym (off_thread vp rings q (ap thread_of saved))) e g
+    (λ q. ap (λ (y : RingRecord). has_priority y.ipb q || has_priority vp.backlog q) (ring_here rings t r inside) ∙ sym (off_thread vp rings q (ap thread_of saved))) e g
 
 -- a processor that uses a thread uses no other, and none uses its own
 moves_on : (vps : List Vp) (rings : List RingRecord) (v t : ℕ) (x : Vp) (r : RingRecord) → AreFit vps rings → v < length vps → Uses vps v t → ((u : ℕ) → thread_of x.phase ≡ Some u → u ≡ t) → r.cam ≡ cam_at x.phase v → IsMove vps rings v t x r
@@ -61,14 +63,14 @@ moves_on vps rings v t x r f l uses to cam = record {
   cam = cam;
 }
 
-pub pushes : (vps vps' : List Vp) (rings rings' : List RingRecord) (v t cam : ℕ) → AreFit vps rings → v < length vps → (vp_in vps v).phase ≡ Restored t → cam ≡ valid_cam_of v →
+pub pushes : (vps vps' : List Vp) (rings rings' : List RingRecord) (v t cam : ℕ) → AreFit vps rings → v < length vps → (vp_in vps v).phase ≡ Restored t → cam ≡ cam_of v →
     vps' ≡ slice_set vps v (on t (vp_in vps v)) → rings' ≡ slice_set rings t (pushed cam (vp_in vps v).backlog (ring_in rings t)) → IsWhole vps vps' rings rings'
 pushes vps vps' rings rings' v t cam f l at word e g =
     let vp : Vp = vp_in vps v in
     let r : RingRecord = pushed cam vp.backlog (ring_in rings t) in
     let m = moves_on vps rings v t (on t vp) r f l (ap thread_of at) (λ u e. same_some t u e) word in
     whole_at vps vps' rings rings' v t (on t vp) r f m
-    (λ q. ap (λ (y : RingRecord). is_pending y.ipb q || is_pending 0 q) (ring_here rings t r m.thread) ∙ taken_in (ring_in rings t).ipb vp.backlog q ∙ sym (on_thread vp rings t q (ap thread_of at))) e g
+    (λ q. ap (λ (y : RingRecord). has_priority y.ipb q || has_priority 0 q) (ring_here rings t r m.thread) ∙ taken_in (ring_in rings t).ipb vp.backlog q ∙ sym (on_thread vp rings t q (ap thread_of at))) e g
 
 pub saves : (vps vps' : List Vp) (rings rings' : List RingRecord) (v t : ℕ) → AreFit vps rings → v < length vps → (vp_in vps v).phase ≡ Pulled t →
     vps' ≡ slice_set vps v (saved_from (ring_in rings t) (vp_in vps v)) → rings' ≡ slice_set rings t free_ring → IsWhole vps vps' rings rings'
@@ -78,7 +80,7 @@ saves vps vps' rings rings' v t f l at e g =
     whole_at vps vps' rings rings' v t (saved_from (ring_in rings t) vp) free_ring f m (λ q. sym (on_thread vp rings t q (ap thread_of at))) e g
 
 -- the CAM word of a processor that is pulled
-without_valid : (v : ℕ) → v < 2 ^ 30 → valid_cam_of v % 2 ^ 31 ≡ cam_of v
+without_valid : (v : ℕ) → v < 2 ^ 30 → cam_of v % 2 ^ 31 ≡ pulled_cam_of v
 without_valid v l = omega arith
 
 pub pulls : (vps vps' : List Vp) (rings rings' : List RingRecord) (v t : ℕ) → AreFit vps rings → v < length vps → (vp_in vps v).phase ≡ On t →
@@ -86,10 +88,10 @@ pub pulls : (vps vps' : List Vp) (rings rings' : List RingRecord) (v t : ℕ) �
 pulls vps vps' rings rings' v t f l at e g =
     let vp : Vp = vp_in vps v in
     let r : RingRecord = pulled (ring_in rings t) in
-    let word : r.cam ≡ cam_of v = ap (λ c. c % 2 ^ 31) (f.on v t at) ∙ without_valid v (omega (arith, l, f.few)) in
+    let word : r.cam ≡ pulled_cam_of v = ap (λ c. c % 2 ^ 31) (f.on v t at) ∙ without_valid v (omega (arith, l, f.few)) in
     let m = moves_on vps rings v t (pulled_from t vp) r f l (ap thread_of at) (λ u e. same_some t u e) word in
     whole_at vps vps' rings rings' v t (pulled_from t vp) r f m
-    (λ q. ap (λ (y : RingRecord). is_pending y.ipb q || is_pending vp.backlog q) (ring_here rings t r m.thread) ∙ sym (on_thread vp rings t q (ap thread_of at))) e g
+    (λ q. ap (λ (y : RingRecord). has_priority y.ipb q || has_priority vp.backlog q) (ring_here rings t r m.thread) ∙ sym (on_thread vp rings t q (ap thread_of at))) e g
 
 -- ---- a presentation
 -- parts that still fit together, and in which one more priority is pending for one processor
@@ -135,9 +137,9 @@ finds vps rings rings' v t p f at g = subst (λ rs. IsAdded vps vps rings rs v p
     here q b =
         let vp : Vp = vp_in vps v in
         on_thread vp (slice_set rings t r) t q (ap thread_of at)
-        ∙ ap (λ (y : RingRecord). is_pending y.ipb q || is_pending vp.backlog q) (ring_here rings t r inside)
-        ∙ ap (λ c. c || is_pending vp.backlog q) (after_add p (ring_in rings t) q b)
-        ∙ or_left (is_pending (ring_in rings t).ipb q) (is_pending vp.backlog q) (q == p)
+        ∙ ap (λ (y : RingRecord). has_priority y.ipb q || has_priority vp.backlog q) (ring_here rings t r inside)
+        ∙ ap (λ c. c || has_priority vp.backlog q) (after_add p (ring_in rings t) q b)
+        ∙ or_left (has_priority (ring_in rings t).ipb q) (has_priority vp.backlog q) (q == p)
         ∙ ap (λ c. c || (q == p)) (sym (on_thread vp rings t q (ap thread_of at)))
 
     by : (w q : ℕ) → q < 8 → (w ≡ v) ⊎ (w ≢ v) → is_pending_for vps (slice_set rings t r) w q ≡ (is_pending_for vps rings w q || ((w == v) && (q == p)))
@@ -157,15 +159,15 @@ backlogs vps vps' rings v p f l a g = subst (λ xs. IsAdded vps xs rings rings v
     here : (q : ℕ) → q < 8 → pending_of x rings q ≡ (pending_of (vp_in vps v) rings q || (q == p))
     here q b =
         let vp : Vp = vp_in vps v in
-        ap (λ c. is_pending (ipb_in vp rings (thread_of vp.phase)) q || c) (with_one vp.backlog p q a b)
-        ∙ or_right (is_pending (ipb_in vp rings (thread_of vp.phase)) q) (is_pending vp.backlog q) (q == p)
+        ap (λ c. has_priority (ipb_in vp rings (thread_of vp.phase)) q || c) (with_one vp.backlog p q a b)
+        ∙ or_right (has_priority (ipb_in vp rings (thread_of vp.phase)) q) (has_priority vp.backlog q) (q == p)
 
     by : (w q : ℕ) → q < 8 → (w ≡ v) ⊎ (w ≢ v) → is_pending_for (slice_set vps v x) rings w q ≡ (is_pending_for vps rings w q || ((w == v) && (q == p)))
     by w q b (inl same) = ap (λ y. pending_of y rings q) (ap (λ k. vp_in (slice_set vps v x) k) same ∙ vp_here vps v x l) ∙ here q b ∙ ap (λ k. is_pending_for vps rings k q || (q == p)) (sym same) ∙ for_one (is_pending_for vps rings w q) (q == p) w v same
     by w q b (inr other) = ap (λ y. pending_of y rings q) (vp_there vps v w x other) ∙ for_none (is_pending_for vps rings w q) (q == p) w v other
 
 -- ---- the processor that a CAM word names
-pub named_is : (n cam v : ℕ) → Some v ≡ named_by n cam → cam ≡ valid_cam_of v
+pub named_is : (n cam v : ℕ) → Some v ≡ named_by n cam → cam ≡ cam_of v
 named_is n cam v e = grind (arith, nat_tests)
 
 is_valid_of : (cam : ℕ) → 2 ^ 31 ≤ cam → is_valid cam ≡ true

@@ -1,5 +1,5 @@
 -- Presentations and moves: what is answered, first check first, and what becomes of the processor.
-use Rattle.std.specs.Prelude.{ℕ, ◌==◌, Bool, true, false, if◌then◌else◌, Option, Some, None}
+use Rattle.std.specs.Prelude.{ℕ, ◌==◌, Bool, if◌then◌else◌, Option, Some, None}
 use Rattle.xv_model.specs.declared.outcomes.Phase.{Phase}
 use Rattle.xv_model.specs.declared.outcomes.Phase.TheVariants.{Saved, Restored, On, Pulled}
 use Rattle.xv_model.specs.declared.outcomes.MoveRefused.{MoveRefused}
@@ -78,10 +78,3 @@ pulled_from t vp = record { valid = vp.valid; phase = Pulled t; cppr = vp.cppr; 
 -- a processor whose CPPR and IPB were saved from a ring
 abbrev pub saved_from : RingRecord → Vp → Vp
 saved_from r vp = record { valid = vp.valid; phase = Saved; cppr = r.cppr; ipb = r.ipb; backlog = vp.backlog }
-
--- whether a presentation made its priority pending
-abbrev pub is_kept : Presented → Bool
-is_kept Found = true
-is_kept Backlogged = true
-is_kept Lost = false
-is_kept NoProcessor = false

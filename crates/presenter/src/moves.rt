@@ -4,18 +4,16 @@ ghost use Rattle.std.specs.Prelude.{◌≡◌, ◌≢◌, ◌<◌, ◌↔◌, �
 ghost use Rattle.xv_model.specs.declared.outcomes.MoveRefused.{MoveRefused};
 ghost use Rattle.xv_model.specs.declared.outcomes.MoveRefused.TheVariants.{NotValid, NoContext};
 ghost use Rattle.xv_model.specs.declared.outcomes.Phase.TheVariants.{On, Pulled};
+ghost use Rattle.xv_model.specs.processor.Phases.{cam_of};
 ghost use Rattle.nvt_backlog.specs.Vps.{vp_in};
 ghost use Rattle.thread_context.specs.Rings.{ring_in, free_ring, loaded, pulled, pushed};
-ghost use Rattle.presenter.specs.Contexts.{AreFit, IsUser, KeepsPending, Uses, named_by, valid_cam_of};
+ghost use Rattle.presenter.specs.Contexts.{AreFit, IsUser, KeepsPending, Uses, named_by};
 ghost use Rattle.presenter.specs.Moves.{on, pulled_from, push_refused, restore_refused, restored, save_refused, saved_from};
 
 use nvt_backlog::{Vp, Vps};
 use thread_context::Rings;
 use xv_model::outcomes::{MoveRefused, Phase};
-
-/// The CAM word of processor 0 with its valid bit; those of the others follow (QEMU's
-/// hw/intc/spapr_xive.c, SPAPR_XIVE_NVT_BASE).
-const FIRST_CAM: u32 = 0x8000_0400;
+use xv_model::tima::{CAM_FIRST, CAM_VALID};
 
 /// The processor that uses a thread.
 fn user(vps: &Vps, t: u32) -> Option<u32>
@@ -128,8 +126,9 @@ fn named(vps: &Vps, cam: u32) -> Option<u32>
     requires few { length vps.now.vps < 0x4000_0000 }
     ensures { result ≡ named_by (length vps.now.vps) cam }
 {
-    if cam >= FIRST_CAM && cam < FIRST_CAM + vps.count() {
-        Some(cam - FIRST_CAM)
+    let first = CAM_VALID + CAM_FIRST;
+    if cam >= first && cam < first + vps.count() {
+        Some(cam - first)
     } else {
         None
     }
@@ -189,7 +188,7 @@ pub fn pull(vps: &mut Vps, rings: &mut Rings, t: u32) -> Result<u32, MoveRefused
     requires fit { AreFit vps.old.vps rings.old }
     ensures refused { (why : MoveRefused) → result ≡ Err why → why ≡ NoContext }
     ensures no_context { (result ≡ Err NoContext) ↔ ((v : ℕ) → (vp_in vps.old.vps v).phase ≢ On t) }
-    ensures cam { (v : ℕ) → (vp_in vps.old.vps v).phase ≡ On t → result ≡ Ok (valid_cam_of v) }
+    ensures cam { (v : ℕ) → (vp_in vps.old.vps v).phase ≡ On t → result ≡ Ok (cam_of v) }
     ensures unchanged_vps { OnErr result (vps.new ≡ vps.old) }
     ensures unchanged_rings { OnErr result (rings.new ≡ rings.old) }
     ensures vps { (v : ℕ) → (vp_in vps.old.vps v).phase ≡ On t →

@@ -3,10 +3,11 @@
 ghost use Rattle.std.specs.Prelude.{◌≡◌, ◌≢◌, ◌<◌, ◌==◌, ◌&&◌, ◌||◌, ℕ, length, slice_set};
 ghost use Rattle.xv_model.specs.declared.outcomes.Phase.TheVariants.{On};
 ghost use Rattle.xv_model.specs.declared.outcomes.Presented.TheVariants.{Found, Backlogged};
+ghost use Rattle.xv_model.specs.processor.Pending.{is_kept};
 ghost use Rattle.nvt_backlog.specs.Vps.{vp_in};
 ghost use Rattle.thread_context.specs.Rings.{ring_in, pending_added};
 ghost use Rattle.presenter.specs.Contexts.{AreFit, is_pending_for};
-ghost use Rattle.presenter.specs.Moves.{backlogged, is_kept, presented_by};
+ghost use Rattle.presenter.specs.Moves.{backlogged, presented_by};
 
 use nvt_backlog::{Vp, Vps};
 use thread_context::Rings;

@@ -8,7 +8,8 @@ use Rattle.std.proofs.lemmas.Bool.{cases_eq, cases_order, ne_eqb}
 use Rattle.std.proofs.lemmas.Bool.Decides.{nat_tests}
 use Rattle.std.proofs.lemmas.Nat.{leading_top, le-div, div_below, pow_below, pow_pos}
 use Rattle.std.proofs.lemmas.Nat.Bits.{bit_at_and, bit_at_or, bit_at_not, bit_at_above, bit_at-zero, bit_at-lt, bit_at-pow_same, bit_at-pow_other, same_from_bits_below}
-use Rattle.thread_context.specs.Priorities.{pending_bit, is_pending, first_of, least_pending, IsLeast, NonePending, with_pending, without_pending}
+use Rattle.xv_model.specs.processor.Priorities.{has_priority, priority_bit}
+use Rattle.thread_context.specs.Priorities.{first_of, least_pending, IsLeast, NonePending, with_pending, without_pending}
 
 -- r is the first of the priorities from p on, below an end, that is pending
 record IsFirst (is : ℕ → Bool) (p end r : ℕ) : Type 0 where
@@ -47,9 +48,9 @@ tells : (left : ℕ) (is : ℕ → Bool) (p : ℕ) → First is p (p + left) (fi
 tells zero is p = inr (record { value = refl; none = λ q a b. absurd (omega arith) })
 tells (suc left) is p = one_more is p left (first_of left is (suc p)) (is p) refl (tells left is (suc p))
 
-least_tells : (ipb : ℕ) → First (is_pending ipb) 0 8 (least_pending ipb)
+least_tells : (ipb : ℕ) → First (has_priority ipb) 0 8 (least_pending ipb)
 unfolding least_pending
-least_tells ipb = tells 8 (is_pending ipb) 0
+least_tells ipb = tells 8 (has_priority ipb) 0
 
 -- PIPR is a priority, or 0xff
 pub least_range : (ipb : ℕ) → (least_pending ipb < 8) ⊎ (least_pending ipb ≡ 0xff)
@@ -65,28 +66,28 @@ both b t f = true≢false (sym t ∙ f)
 pub least_exactly : (ipb p : ℕ) → p < 8 → (least_pending ipb ≡ p) ↔ IsLeast ipb p
 least_exactly ipb p l = (there (least_tells ipb), back (least_tells ipb))
   where
-    there : First (is_pending ipb) 0 8 (least_pending ipb) → least_pending ipb ≡ p → IsLeast ipb p
+    there : First (has_priority ipb) 0 8 (least_pending ipb) → least_pending ipb ≡ p → IsLeast ipb p
     there (inl f) e = subst (IsLeast ipb) e (record { pending = f.pending; none_less = λ q b. f.none q (omega arith) b })
     there (inr n) e = absurd (omega arith)
 
-    back : First (is_pending ipb) 0 8 (least_pending ipb) → IsLeast ipb p → least_pending ipb ≡ p
+    back : First (has_priority ipb) 0 8 (least_pending ipb) → IsLeast ipb p → least_pending ipb ≡ p
     back (inl f) is = elim (cases_order (least_pending ipb) p) [
       | inl same ↦ same
-      | inr (inl less) ↦ absurd (both (is_pending ipb (least_pending ipb)) f.pending (is.none_less (least_pending ipb) less))
-      | inr (inr more) ↦ absurd (both (is_pending ipb p) is.pending (f.none p (omega arith) more))
+      | inr (inl less) ↦ absurd (both (has_priority ipb (least_pending ipb)) f.pending (is.none_less (least_pending ipb) less))
+      | inr (inr more) ↦ absurd (both (has_priority ipb p) is.pending (f.none p (omega arith) more))
     ]
-    back (inr n) is = absurd (both (is_pending ipb p) is.pending (n.none p (omega arith) l))
+    back (inr n) is = absurd (both (has_priority ipb p) is.pending (n.none p (omega arith) l))
 
 -- it is 0xff exactly where none is
 pub none_exactly : (ipb : ℕ) → (least_pending ipb ≡ 0xff) ↔ NonePending ipb
 none_exactly ipb = (there (least_tells ipb), back (least_tells ipb))
   where
-    there : First (is_pending ipb) 0 8 (least_pending ipb) → least_pending ipb ≡ 0xff → NonePending ipb
+    there : First (has_priority ipb) 0 8 (least_pending ipb) → least_pending ipb ≡ 0xff → NonePending ipb
     there (inl f) e = absurd (omega arith)
     there (inr n) e = λ p l. n.none p (omega arith) l
 
-    back : First (is_pending ipb) 0 8 (least_pending ipb) → NonePending ipb → least_pending ipb ≡ 0xff
-    back (inl f) is = absurd (both (is_pending ipb (least_pending ipb)) f.pending (is (least_pending ipb) f.below))
+    back : First (has_priority ipb) 0 8 (least_pending ipb) → NonePending ipb → least_pending ipb ≡ 0xff
+    back (inl f) is = absurd (both (has_priority ipb (least_pending ipb)) f.pending (is (least_pending ipb) f.below))
     back (inr n) is = n.value
 
 -- no priority is pending in a byte that is 0
@@ -135,29 +136,29 @@ same_one : (m n : ℕ) → m < 2 → n < 2 → (m == 1) ≡ (n == 1) → m ≡ n
 same_one m n a b e = grind (arith, nat_tests)
 
 -- the bit of a priority is that of no other
-bit_is : (p q : ℕ) → p < 8 → q < 8 → is_pending (pending_bit p) q ≡ (q == p)
+bit_is : (p q : ℕ) → p < 8 → q < 8 → has_priority (priority_bit p) q ≡ (q == p)
 bit_is p q a b = elim (cases_eq q p) [
-  | inl same ↦ ap (λ i. bit_at (pending_bit p) (7 - i) == 1) same ∙ ap (λ n. n == 1) (bit_at-pow_same (7 - p)) ∙ sym (eq-eqb q p same)
+  | inl same ↦ ap (λ i. bit_at (priority_bit p) (7 - i) == 1) same ∙ ap (λ n. n == 1) (bit_at-pow_same (7 - p)) ∙ sym (eq-eqb q p same)
   | inr other ↦ ap (λ n. n == 1) (bit_at-pow_other (7 - p) (7 - q) (λ e. other (omega arith))) ∙ sym (ne_eqb q p other)
 ]
 
 -- in two bytes together
-pub either : (m n q : ℕ) → is_pending (bit_or m n) q ≡ (is_pending m q || is_pending n q)
+pub either : (m n q : ℕ) → has_priority (bit_or m n) q ≡ (has_priority m q || has_priority n q)
 either m n q = ap (λ b. b == 1) (bit_at_or m n (7 - q)) ∙ max_one (bit_at m (7 - q)) (bit_at n (7 - q)) (bit_at-lt m (7 - q)) (bit_at-lt n (7 - q))
 
 -- with one more
-pub with_one : (ipb p q : ℕ) → p < 8 → q < 8 → is_pending (with_pending ipb p) q ≡ (is_pending ipb q || (q == p))
-with_one ipb p q a b = either ipb (pending_bit p) q ∙ ap (λ t. is_pending ipb q || t) (bit_is p q a b)
+pub with_one : (ipb p q : ℕ) → p < 8 → q < 8 → has_priority (with_pending ipb p) q ≡ (has_priority ipb q || (q == p))
+with_one ipb p q a b = either ipb (priority_bit p) q ∙ ap (λ t. has_priority ipb q || t) (bit_is p q a b)
 
 -- without one
-pub without_one : (ipb p q : ℕ) → p < 8 → q < 8 → is_pending (without_pending ipb p) q ≡ (is_pending ipb q && not (q == p))
+pub without_one : (ipb p q : ℕ) → p < 8 → q < 8 → has_priority (without_pending ipb p) q ≡ (has_priority ipb q && not (q == p))
 without_one ipb p q a b =
-    ap (λ b. b == 1) (bit_at_and ipb (bit_not w8 (pending_bit p)) (7 - q) ∙ ap (min (bit_at ipb (7 - q))) (bit_at_not w8 (pending_bit p) (7 - q) (pow_below (7 - p) 8 (omega arith)) (omega arith)))
-    ∙ min_one (bit_at ipb (7 - q)) (bit_at (pending_bit p) (7 - q)) (bit_at-lt ipb (7 - q)) (bit_at-lt (pending_bit p) (7 - q))
-    ∙ ap (λ t. is_pending ipb q && not t) (bit_is p q a b)
+    ap (λ b. b == 1) (bit_at_and ipb (bit_not w8 (priority_bit p)) (7 - q) ∙ ap (min (bit_at ipb (7 - q))) (bit_at_not w8 (priority_bit p) (7 - q) (pow_below (7 - p) 8 (omega arith)) (omega arith)))
+    ∙ min_one (bit_at ipb (7 - q)) (bit_at (priority_bit p) (7 - q)) (bit_at-lt ipb (7 - q)) (bit_at-lt (priority_bit p) (7 - q))
+    ∙ ap (λ t. has_priority ipb q && not t) (bit_is p q a b)
 
 -- two bytes in which the same priorities are pending are one
-pub same_pending : (m n : ℕ) → m < 2 ^ 8 → n < 2 ^ 8 → ((q : ℕ) → q < 8 → is_pending m q ≡ is_pending n q) → m ≡ n
+pub same_pending : (m n : ℕ) → m < 2 ^ 8 → n < 2 ^ 8 → ((q : ℕ) → q < 8 → has_priority m q ≡ has_priority n q) → m ≡ n
 same_pending m n a b same = same_from_bits_below 8 m n a b (λ i l. same_one (bit_at m i) (bit_at n i) (bit_at-lt m i) (bit_at-lt n i) (at i l))
   where
     at : (i : ℕ) → i < 8 → (bit_at m i == 1) ≡ (bit_at n i == 1)

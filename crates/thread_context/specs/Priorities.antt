@@ -1,14 +1,7 @@
 -- Pending priorities: a byte has a bit for each of the eight, as the register IPB does (QEMU's hw/intc/xive.c).
-use Rattle.std.specs.Prelude.{ℕ, zero, suc, ◌≡◌, ◌<◌, ◌-◌, ◌^◌, ◌==◌, Bool, true, false, if◌then◌else◌, bit_and, bit_or}
-use Rattle.std.specs.Int.{bit_at, bit_not, w8}
-
--- the bit of a priority: the least priority has the highest bit (priority_to_ipb)
-abbrev pub pending_bit : ℕ → ℕ
-pending_bit p = 2 ^ (7 - p)
-
--- whether a priority, which is at most 7, is pending
-abbrev pub is_pending : ℕ → ℕ → Bool
-is_pending ipb p = bit_at ipb (7 - p) == 1
+use Rattle.std.specs.Prelude.{ℕ, zero, suc, ◌≡◌, ◌<◌, Bool, true, false, if◌then◌else◌, bit_and, bit_or}
+use Rattle.std.specs.Int.{bit_not, w8}
+use Rattle.xv_model.specs.processor.Priorities.{has_priority, priority_bit}
 
 -- the first of so many priorities, from p on, that is pending; 0xff where none is
 abbrev pub first_of : ℕ → (ℕ → Bool) → ℕ → ℕ
@@ -17,21 +10,21 @@ first_of (suc left) pending p = if pending p then p else first_of left pending (
 
 -- the least priority that is pending, or 0xff where none is: PIPR (ipb_to_pipr)
 unfoldable pub least_pending : ℕ → ℕ
-least_pending ipb = first_of 8 (is_pending ipb) 0
+least_pending ipb = first_of 8 (has_priority ipb) 0
 
 -- p is pending, and no lesser priority is
 pub record IsLeast (ipb p : ℕ) : Type 0 where
-  pub pending : is_pending ipb p ≡ true
-  pub none_less : (q : ℕ) → q < p → is_pending ipb q ≡ false
+  pub pending : has_priority ipb p ≡ true
+  pub none_less : (q : ℕ) → q < p → has_priority ipb q ≡ false
 
 -- no priority is pending
 abbrev pub NonePending : ℕ → Type 0
-NonePending ipb = (p : ℕ) → p < 8 → is_pending ipb p ≡ false
+NonePending ipb = (p : ℕ) → p < 8 → has_priority ipb p ≡ false
 
 -- one more priority is pending, or was already
 abbrev pub with_pending : ℕ → ℕ → ℕ
-with_pending ipb p = bit_or ipb (pending_bit p)
+with_pending ipb p = bit_or ipb (priority_bit p)
 
 -- a priority isn't pending any more
 abbrev pub without_pending : ℕ → ℕ → ℕ
-without_pending ipb p = bit_and ipb (bit_not w8 (pending_bit p))
+without_pending ipb p = bit_and ipb (bit_not w8 (priority_bit p))

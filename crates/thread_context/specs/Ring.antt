@@ -36,7 +36,7 @@ pub record IsRing (r : Ring) : Type 0 where
   pub pipr : r.pipr ≡ least_pending r.ipb
 
 -- CPPR and IPB are bytes, and the CAM word is one of 32 bits
-pub record IsKept (r : RingRecord) : Type 0 where
+pub record IsInRange (r : RingRecord) : Type 0 where
   pub cppr : r.cppr < 2 ^ 8
   pub ipb : r.ipb < 2 ^ 8
   pub cam : r.cam < 2 ^ 32

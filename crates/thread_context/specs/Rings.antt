@@ -1,5 +1,6 @@
 -- The rings of a board's threads, and what each call makes of a ring.
 use Rattle.std.specs.Prelude.{ℕ, ◌%◌, ◌^◌, nat_lt, if◌then◌else◌, List, slice_index_or, bit_or}
+use Rattle.xv_model.specs.processor.Registers.{stored_cppr}
 use Rattle.thread_context.specs.declared.ring.RingRecord.{RingRecord}
 use Rattle.thread_context.specs.Priorities.{least_pending, with_pending, without_pending}
 use Rattle.thread_context.specs.Ring.{notified}
@@ -27,10 +28,6 @@ taken r = record {
 -- a ring after an acknowledgement
 abbrev pub accepted : RingRecord → RingRecord
 accepted r = if notified r then taken r else r
-
--- CPPR where this value is stored: above 7 there is no priority, and it is 0xff
-abbrev pub stored_cppr : ℕ → ℕ
-stored_cppr value = if nat_lt 7 value then 0xff else value
 
 -- a ring in whose CPPR this value was stored
 abbrev pub with_cppr : ℕ → RingRecord → RingRecord

@@ -1,13 +1,14 @@
 //! The priorities that are pending, one bit of a byte each.
 
 ghost use Rattle.std.specs.Prelude.{◌≡◌, ◌<◌, ◌⊎◌};
-ghost use Rattle.thread_context.specs.Priorities.{pending_bit as bit_of, least_pending as least_of, with_pending as with, without_pending as without};
+ghost use Rattle.xv_model.specs.processor.Priorities.{priority_bit as bit_of};
+ghost use Rattle.thread_context.specs.Priorities.{least_pending as least_of, with_pending as with, without_pending as without};
 
 /// What PIPR is where no priority is pending.
 const NO_PRIORITY: u8 = 0xff;
 
 /// The bit of a priority (QEMU's hw/intc/xive.c, priority_to_ipb).
-fn pending_bit(priority: u8) -> u8
+fn priority_bit(priority: u8) -> u8
     requires { priority < 8 }
     ensures { result ≡ bit_of priority }
 {
@@ -31,7 +32,7 @@ pub(crate) fn with_pending(ipb: u8, priority: u8) -> u8
     requires { priority < 8 }
     ensures { result ≡ with ipb priority }
 {
-    ipb | pending_bit(priority)
+    ipb | priority_bit(priority)
 }
 
 /// The pending priorities without one.
@@ -39,5 +40,5 @@ pub(crate) fn without_pending(ipb: u8, priority: u8) -> u8
     requires { priority < 8 }
     ensures { result ≡ without ipb priority }
 {
-    ipb & !pending_bit(priority)
+    ipb & !priority_bit(priority)
 }

@@ -4,9 +4,7 @@ ghost use Rattle.std.specs.Prelude.{◌≡◌, ◌+◌, ◌<◌, ◌≤◌, leng
 ghost use Rattle.thread_context.specs.Ring.{big_endian as number_at, ring_bytes, ring_of};
 
 use crate::priorities::least_pending;
-
-/// The valid bit of a CAM word.
-pub(crate) const VALID: u32 = 1 << 31;
+use xv_model::tima::CAM_VALID;
 
 /// What NSR is where the thread is notified.
 pub(crate) const NOTIFIED: u8 = 0x80;
@@ -47,7 +45,7 @@ impl RingRecord {
         ensures { result ≡ ring_of self.now }
     {
         let pipr = least_pending(self.ipb);
-        let notified = self.cam >= VALID && pipr < self.cppr;
+        let notified = self.cam >= CAM_VALID && pipr < self.cppr;
         Ring {
             nsr: if notified { NOTIFIED } else { 0 },
             cppr: self.cppr,

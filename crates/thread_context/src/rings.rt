@@ -1,16 +1,18 @@
 //! The rings of a board's threads, and what changes them.
 
 ghost use Rattle.std.specs.Prelude.{◌≡◌, ◌+◌, ◌*◌, ◌<◌, ◌≤◌, ◌==◌, ◌&&◌, ◌||◌, ◌↔◌, ℕ, IfOk, length, not, replicate, slice_set};
-ghost use Rattle.thread_context.specs.Priorities.{IsLeast, NonePending, is_pending};
-ghost use Rattle.thread_context.specs.Ring.{IsRing, big_endian as number_at, notified, ring_bytes, ring_of};
+ghost use Rattle.xv_model.specs.processor.Priorities.{has_priority};
+ghost use Rattle.thread_context.specs.Priorities.{IsLeast, NonePending};
+ghost use Rattle.thread_context.specs.Ring.{IsInRange, IsRing, big_endian as number_at, notified, ring_bytes, ring_of};
 ghost use Rattle.thread_context.specs.Rings.{accepted, free_ring, loaded, pending_added, pulled, pushed, ring_in, with_cppr};
 
 use crate::priorities::{least_pending, with_pending, without_pending};
-use crate::ring::{NOTIFIED, Ring, RingRecord, VALID, big_endian};
+use crate::ring::{NOTIFIED, Ring, RingRecord, big_endian};
 use std::alloc::Global;
 use std::marker::Model;
 use xv_base::NoMemory;
 use xv_model::board::Board;
+use xv_model::tima::CAM_VALID;
 
 /// The greatest priority, which is the least urgent.
 const MOST_PRIORITY: u8 = 7;
@@ -28,13 +30,13 @@ pub struct Rings {
 impl Model for Rings {
     ghost use Rattle.std.specs.Prelude.{List, All};
     ghost use Rattle.thread_context.specs.declared.ring.RingRecord.{RingRecord};
-    ghost use Rattle.thread_context.specs.Ring.{IsKept};
+    ghost use Rattle.thread_context.specs.Ring.{IsInRange};
 
     ghost Value = { List RingRecord };
 
     ghost view = { λ r. r.records.items };
 
-    ghost invariant = { λ r. All IsKept r.records.items };
+    ghost invariant = { λ r. All IsInRange r.records.items };
 }
 
 impl Rings {
@@ -65,9 +67,10 @@ impl Rings {
     pub fn accept(&mut self, t: u32) -> u16
         requires { t < length self.old }
         ensures value { result ≡ (ring_of (ring_in self.old t)).nsr * 256 + (ring_in self.new t).cppr }
+        ensures in_range { IsInRange (ring_in self.old t) }
         ensures ring { self.new ≡ slice_set self.old t (accepted (ring_in self.old t)) }
-        ensures pending { (q : ℕ) → q < 8 → is_pending (ring_in self.new t).ipb q ≡
-            (is_pending (ring_in self.old t).ipb q
+        ensures pending { (q : ℕ) → q < 8 → has_priority (ring_in self.new t).ipb q ≡
+            (has_priority (ring_in self.old t).ipb q
             && not (notified (ring_in self.old t) && (q == (ring_of (ring_in self.old t)).pipr))) }
     {
         let record = &mut self.records[t as usize];
@@ -91,8 +94,8 @@ impl Rings {
     pub fn add_pending(&mut self, t: u32, priority: u8)
         requires { t < length self.old }
         ensures ring { self.new ≡ slice_set self.old t (pending_added priority (ring_in self.old t)) }
-        ensures pending { (q : ℕ) → q < 8 → is_pending (ring_in self.new t).ipb q ≡
-            (is_pending (ring_in self.old t).ipb q || (q == priority)) }
+        ensures pending { (q : ℕ) → q < 8 → has_priority (ring_in self.new t).ipb q ≡
+            (has_priority (ring_in self.old t).ipb q || (q == priority)) }
     {
         let record = &mut self.records[t as usize];
         if priority <= MOST_PRIORITY {
@@ -120,8 +123,8 @@ impl Rings {
     pub fn push(&mut self, t: u32, cam: u32, backlog: u8)
         requires { t < length self.old }
         ensures ring { self.new ≡ slice_set self.old t (pushed cam backlog (ring_in self.old t)) }
-        ensures pending { (q : ℕ) → q < 8 → is_pending (ring_in self.new t).ipb q ≡
-            (is_pending (ring_in self.old t).ipb q || is_pending backlog q) }
+        ensures pending { (q : ℕ) → q < 8 → has_priority (ring_in self.new t).ipb q ≡
+            (has_priority (ring_in self.old t).ipb q || has_priority backlog q) }
     {
         let record = &mut self.records[t as usize];
         record.cam = cam;
@@ -137,7 +140,7 @@ impl Rings {
     {
         let record = &mut self.records[t as usize];
         let cam = record.cam;
-        record.cam = cam % VALID;
+        record.cam = cam % CAM_VALID;
         cam
     }
 
@@ -148,7 +151,8 @@ impl Rings {
         requires thread { t < length self.now }
         requires size { size ≤ 8 }
         requires inside { at + size ≤ 16 }
-        ensures { result ≡ number_at (ring_bytes (ring_of (ring_in self.now t))) at size }
+        ensures value { result ≡ number_at (ring_bytes (ring_of (ring_in self.now t))) at size }
+        ensures in_range { IsInRange (ring_in self.now t) }
     {
         let bytes = self.records[t as usize].shown().bytes();
         big_endian(&bytes, at as usize, size as usize)

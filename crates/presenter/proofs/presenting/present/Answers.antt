@@ -1,5 +1,5 @@
 use Rattle.std.proofs.Common.{rules, ap, sym, ◌∙◌}
-use Rattle.presenter.specs.Contexts.{thread_of}
+use Rattle.xv_model.specs.processor.Phases.{thread_of}
 use Rattle.presenter.proofs.Moved.{backlogs, finds}
 use Rattle.presenter.proofs.presenting.present.Goals as goal
 
