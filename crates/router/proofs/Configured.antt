@@ -80,7 +80,6 @@ configured_stands t z h e actor c ends st l is = record {
       (sym (told z h e actor e c ∙ at_same e (configured c) (end_of z h e)))
       (λ j other. told z h e actor j c ∙ at_other e j (configured c) (end_of z h j) other) j below;
   messages = st.messages ∙ sym (append-nil (flight z h));
-  connected = st.connected;
 }
 
 -- Configurations of sources.
@@ -123,5 +122,4 @@ assigned_stands t z h args actor c a b r st is ok l is_a is_b =
       routes = λ q l. st.routes q l ∙ ap Some (omega arith);
       ends = λ j l. st.ends j l ∙ ap Some (sym (nothing_entered z h j));
       messages = st.messages ∙ sym (append-nil (flight z h));
-      connected = st.connected;
     }

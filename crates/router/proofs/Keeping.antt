@@ -1,7 +1,13 @@
 -- Entries that leave what the tables represent.
-use Rattle.std.proofs.Common.{ℕ, ◌≡◌, ◌+◌, false, List, [], ◌∷◌, ◌++◌, length, Some, sym, ◌∙◌, ap}
+use Rattle.std.proofs.Common.{ℕ, ◌≡◌, ◌+◌, Bool, true, false, List, [], ◌∷◌, ◌++◌, length, Option, Some, None, refl, sym, ◌∙◌, ap, arith, slice_get}
 use Rattle.std.proofs.lemmas.List.{append-nil}
+use Rattle.std.specs.Option.{option_map_or}
+use Rattle.xv_model.specs.declared.messages.Message.{Message}
 use Rattle.xv_model.specs.declared.operations.EndConfig.{EndConfig}
+use Rattle.xv_model.specs.declared.operations.Op.{Op}
+use Rattle.xv_model.specs.declared.operations.Op.TheVariants as op
+use Rattle.xv_model.specs.declared.outcomes.Outcome.{Outcome}
+use Rattle.xv_model.specs.declared.outcomes.Outcome.TheVariants as out
 use Rattle.xv_model.specs.declared.entries.Entry.{Entry}
 use Rattle.xv_model.specs.account.Start.{Start}
 use Rattle.xv_model.specs.account.Kinds.{is_fabric}
@@ -41,8 +47,49 @@ nothing_keeps t z h x eases routed ends messages st = record {
   routes = λ s l. st.routes s l ∙ ap Some (sym (routed s));
   ends = λ e l. st.ends e l ∙ ap Some (sym (ends e));
   messages = st.messages ∙ sym messages;
-  connected = st.connected;
 }
+
+-- whether an entry is one of processors, of the rings of threads or of memory alone, or took no message
+abbrev pub is_beside : Op → Outcome → Bool
+is_beside (op.Connect v) u = true
+is_beside (op.Restore v t) u = true
+is_beside (op.Save v) u = true
+is_beside (op.Tima t page offset size access) u = true
+is_beside (op.Peek addr) u = true
+is_beside (op.Zero addr len) u = true
+is_beside (op.Take i) out.NoMessage = true
+is_beside (op.Take i) out.BadAccess = true
+is_beside o u = false
+
+-- what is made of a message, where that is none
+pub made_none : (m : Option Message) → ◌≡◌ {A = List Message} (option_map_or (λ n. []) m []) []
+made_none None = refl
+made_none (Some n) = refl
+
+-- an entry
+abbrev entry : ℕ → Op → Outcome → Entry
+entry actor o u = record { actor = actor; op = o; outcome = u }
+
+-- a take of which nothing becomes
+untaken : (t : Kept) (z : Start) (h : List Entry) (actor i : ℕ) (u : Outcome) → is_beside (op.Take i) u ≡ true → StandsFor t z h → StandsFor t z (entry actor (op.Take i) u ∷ h)
+untaken t z h actor i out.NoMessage is = nothing_keeps t z h (entry actor (op.Take i) out.NoMessage) (λ s. refl) (λ s. omega arith) (nothing_entered z h) (ap (λ ms. flight z h ++ ms) (made_none (slice_get (flight z h) i)) ∙ append-nil (flight z h))
+untaken t z h actor i out.BadAccess is = nothing_keeps t z h (entry actor (op.Take i) out.BadAccess) (λ s. refl) (λ s. omega arith) (nothing_entered z h) (ap (λ ms. flight z h ++ ms) (made_none (slice_get (flight z h) i)) ∙ append-nil (flight z h))
+untaken t z h actor i _ is = absurd cc
+
+-- one of the others
+beside : (t : Kept) (z : Start) (h : List Entry) (actor : ℕ) (o : Op) (u : Outcome) → is_beside o u ≡ true → StandsFor t z h → StandsFor t z (entry actor o u ∷ h)
+beside t z h actor (op.Take i) u is = untaken t z h actor i u is
+beside t z h actor (op.Connect v) u is = nothing_keeps t z h (entry actor (op.Connect v) u) (λ s. refl) (λ s. omega arith) (nothing_entered z h) (append-nil (flight z h))
+beside t z h actor (op.Restore v thread) u is = nothing_keeps t z h (entry actor (op.Restore v thread) u) (λ s. refl) (λ s. omega arith) (nothing_entered z h) (append-nil (flight z h))
+beside t z h actor (op.Save v) u is = nothing_keeps t z h (entry actor (op.Save v) u) (λ s. refl) (λ s. omega arith) (nothing_entered z h) (append-nil (flight z h))
+beside t z h actor (op.Tima thread page offset size access) u is = nothing_keeps t z h (entry actor (op.Tima thread page offset size access) u) (λ s. refl) (λ s. omega arith) (nothing_entered z h) (append-nil (flight z h))
+beside t z h actor (op.Peek addr) u is = nothing_keeps t z h (entry actor (op.Peek addr) u) (λ s. refl) (λ s. omega arith) (nothing_entered z h) (append-nil (flight z h))
+beside t z h actor (op.Zero addr len) u is = nothing_keeps t z h (entry actor (op.Zero addr len) u) (λ s. refl) (λ s. omega arith) (nothing_entered z h) (append-nil (flight z h))
+beside t z h actor _ u is = absurd cc
+
+-- such an entry leaves what the tables represent
+pub beside_keeps : (t : Kept) (z : Start) (h : List Entry) (x : Entry) → is_beside x.op x.outcome ≡ true → StandsFor t z h → StandsFor t z (x ∷ h)
+beside_keeps t z h x is = beside t z h x.actor x.op x.outcome is
 
 -- an entry that isn't the fabric's leaves what the tables represent
 pub word_keeps : (t : Kept) (z : Start) (h : List Entry) (x : Entry) → is_fabric z.board x.op ≡ false → StandsFor t z h → StandsFor t z (x ∷ h)

@@ -9,4 +9,6 @@ pub mod Queues
 pub mod Read
 pub mod Ranges
 pub mod Routed
+pub mod Sent
 pub mod Starting
+pub mod Taken

@@ -112,7 +112,6 @@ loaded_stands t z h actor e page offset store ends u st l two answer is =
           (ap (λ (k : EndRecord). with_state k page new) (kept_end t z h e st l) ∙ sym (after z h e e actor page offset q new store two ∙ at_same e (with_state (end_of z h e) page new) (end_of z h e)))
           (λ j other. after z h e j actor page offset q new store two ∙ at_other e j (with_state (end_of z h j) page new) (end_of z h j) other) j below;
       messages = st.messages ∙ sym (append-nil (flight z h));
-      connected = st.connected;
     })
 
 -- an END after a load is in range

@@ -59,7 +59,6 @@ item_stands t z h actor e payload st l = record {
       (ap one_taken (kept_end t z h e st l) ∙ sym (took z h e payload (e == e) ∙ at_same e (one_taken (end_of z h e)) (end_of z h e)))
       (λ j other. took z h j payload (e == j) ∙ at_other e j (one_taken (end_of z h j)) (end_of z h j) other);
   messages = st.messages ∙ sym (append-nil (flight z h));
-  connected = st.connected;
 }
 
 -- a read that answered none

@@ -130,7 +130,6 @@ routed_stands t z h s actor k r ends messages st l is ends_are messages_are = re
       (λ j other. rw (ne_eqb s j (λ same. other (sym same))) (omega arith));
   ends = ends_are;
   messages = messages_are;
-  connected = st.connected;
 }
 
 -- a route that reaches no END

@@ -23,5 +23,4 @@ starts b eases routes ends many first none off = record {
   routes = copies routes b.limits.sources 0 none;
   ends = copies ends (ends_per_processor * b.limits.processors) first_end off;
   messages = refl;
-  connected = λ v l. refl;
 }

@@ -1,7 +1,9 @@
 -- What the router keeps, and which account that represents.
 pub mod Configuring
 pub mod Ends
+pub mod Messages
 pub mod Pages
 pub mod Passes
+pub mod Presenting
 pub mod Routing
 pub mod Tables

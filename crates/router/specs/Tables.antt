@@ -1,11 +1,10 @@
 -- What the tables keep, and which account they represent.
-use Rattle.std.specs.Prelude.{ℕ, ◌≡◌, ◌<◌, ◌*◌, ◌^◌, not, List, length, Some, slice_get, slice_index_or}
+use Rattle.std.specs.Prelude.{ℕ, ◌≡◌, ◌<◌, ◌*◌, ◌^◌, List, length, Some, slice_get, slice_index_or}
 use Rattle.xv_base.specs.Limits.{ends_per_processor}
 use Rattle.xv_model.specs.declared.board.Board.{Board}
 use Rattle.xv_model.specs.declared.eas.Eas.{Eas}
 use Rattle.xv_model.specs.declared.entries.Entry.{Entry}
 use Rattle.xv_model.specs.declared.messages.Message.{Message}
-use Rattle.xv_model.specs.board.Boards.{is_in}
 use Rattle.xv_model.specs.account.Start.{Start, first_eas}
 use Rattle.xv_model.specs.source.Notices.{routes}
 use Rattle.xv_model.specs.source.Eas.{eas}
@@ -13,7 +12,6 @@ use Rattle.xv_model.specs.end.Descriptors.{end_config}
 use Rattle.xv_model.specs.end.EventStates.{esn, ese}
 use Rattle.xv_model.specs.end.Written.{written_count}
 use Rattle.xv_model.specs.end.Reading.{taken_count}
-use Rattle.xv_model.specs.processor.Phases.{is_connected}
 use Rattle.xv_model.specs.route.Flight.{flight}
 use Rattle.end_queue.specs.declared.ends.EndRecord.{EndRecord}
 
@@ -45,8 +43,7 @@ end_of z h e = record {
   ese = ese z h e;
 }
 
--- the tables represent the account: they keep what it gives, and it has connected the processors
--- that the board has connected
+-- the tables represent the account: they keep what it gives
 pub record StandsFor (t : Kept) (z : Start) (h : List Entry) : Type 0 where
   pub board : t.board ≡ z.board
   pub eases : (s : ℕ) → s < z.board.limits.sources → slice_get t.eases s ≡ Some (eas z h s)
@@ -54,5 +51,3 @@ pub record StandsFor (t : Kept) (z : Start) (h : List Entry) : Type 0 where
   pub ends : (e : ℕ) → e < ends_per_processor * z.board.limits.processors →
       slice_get t.ends e ≡ Some (end_of z h e)
   pub messages : t.messages ≡ flight z h
-  pub connected : (v : ℕ) → v < z.board.limits.processors →
-      is_connected z h v ≡ not (is_in z.board.unconnected v)

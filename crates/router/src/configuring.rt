@@ -1,6 +1,6 @@
 //! Configurations of ENDs and sources.
 
-ghost use Rattle.std.specs.Prelude.{◌≡◌, ◌≢◌, ◌<◌, ◌+◌, ◌*◌, ◌^◌, ◌∷◌, ℕ, List, All, IsTrue, false};
+ghost use Rattle.std.specs.Prelude.{◌≡◌, ◌≢◌, ◌<◌, ◌+◌, ◌*◌, ◌^◌, ◌∷◌, ℕ, List, All, IsTrue, length, false};
 ghost use Rattle.xv_base.specs.Limits.{ends_per_processor};
 ghost use Rattle.xv_model.specs.declared.entries.Entry.{Entry};
 ghost use Rattle.xv_model.specs.declared.operations.Op.TheVariants.{EndSet, Hcall};
@@ -11,11 +11,12 @@ ghost use Rattle.xv_model.specs.source.Eas.{is_success, eas_by};
 ghost use Rattle.xv_model.specs.call.Hypercalls.{is_source, is_target, source_config_code};
 ghost use Rattle.xv_model.specs.call.Hypercalls.{bare_reply as bare_reply_of, hcall_reply};
 ghost use Rattle.xv_model.specs.board.Validity.{valid_config};
-ghost use Rattle.router.specs.Configuring.{IsAccepted};
+ghost use Rattle.router.specs.Configuring.{IsAccepted, AreConnected};
 ghost use Rattle.end_queue.specs.Ends.{HasCountsAtMost};
 ghost use Rattle.router.specs.Tables.{StandsFor};
 
 use crate::tables::Tables;
+use nvt_backlog::Vps;
 use xv_base::limits::ENDS_PER_PROCESSOR;
 use xv_model::eas::Eas;
 use xv_model::hypercalls::{
@@ -35,19 +36,21 @@ impl Tables {
         s < self.board.limits.sources as u64 && self.eases[s as usize].valid
     }
 
-    /// Whether a number is that of a connected processor.
-    fn is_target(&self, v: u64) -> bool
-        ensures value { (z : Start) (h : List Entry)
-            → StandsFor self.now z h → result ≡ is_target z h v }
+    /// Whether a number is that of a connected processor, by what is kept of processors.
+    fn is_target(&self, vps: &Vps, v: u64) -> bool
+        requires processors { length vps.now.vps ≡ self.now.board.limits.processors }
+        ensures value { (z : Start) (h : List Entry) → StandsFor self.now z h
+            → AreConnected vps.now.vps z h → result ≡ is_target z h v }
         ensures target { IsTrue result → v < self.now.board.limits.processors }
     {
-        v < self.board.limits.processors as u64 && !self.board.unconnected.has(v as u32)
+        v < self.board.limits.processors as u64 && vps.get(v as u32).valid
     }
 
     /// The code of H_INT_SET_SOURCE_CONFIG.
-    fn source_config_code(&self, config: &SetSourceConfig) -> i64
-        ensures value { (z : Start) (h : List Entry)
-            → StandsFor self.now z h → result ≡ source_config_code z h config.now }
+    fn source_config_code(&self, config: &SetSourceConfig, vps: &Vps) -> i64
+        requires processors { length vps.now.vps ≡ self.now.board.limits.processors }
+        ensures value { (z : Start) (h : List Entry) → StandsFor self.now z h
+            → AreConnected vps.now.vps z h → result ≡ source_config_code z h config.now }
         ensures accepted { IsTrue (is_success result) → IsAccepted self.now.board config.now }
     {
         if config.flags > SRC_FLAGS {
@@ -62,7 +65,7 @@ impl Tables {
         if config.priority >= PRIORITY_RESERVED {
             return H_P4;
         }
-        if !self.is_target(config.target) {
+        if !self.is_target(vps, config.target) {
             return H_P3;
         }
         H_SUCCESS
@@ -88,10 +91,11 @@ impl Tables {
     /// bits count. Its code is the first of these that holds: H_PARAMETER (-4) for another flag, H_P2
     /// (-55) for a LISN that isn't that of a source with a valid EAS, H_SUCCESS (0) for priority 0xff,
     /// H_P4 (-57) for another priority above 6, H_P3 (-56) for a target that isn't a connected
-    /// processor, and H_SUCCESS.
-    pub fn set_source_config(&mut self, args: &[u64; 5]) -> HReply
-        ensures reply { (z : Start) (h : List Entry)
-            → StandsFor self.old z h → result ≡ hcall_reply z h args.now }
+    /// processor, by what is kept of processors, and H_SUCCESS.
+    pub fn set_source_config(&mut self, args: &[u64; 5], vps: &Vps) -> HReply
+        requires processors { length vps.now.vps ≡ self.old.board.limits.processors }
+        ensures reply { (z : Start) (h : List Entry) → StandsFor self.old z h
+            → AreConnected vps.now.vps z h → result ≡ hcall_reply z h args.now }
         ensures stands { (z : Start) (h : List Entry) (actor : ℕ) → StandsFor self.old z h
             → StandsFor self.new z
             (record {
@@ -106,7 +110,7 @@ impl Tables {
             → All (HasCountsAtMost n) self.old.ends → All (HasCountsAtMost n) self.new.ends }
     {
         let config = SetSourceConfig::from_args(args);
-        let code = self.source_config_code(&config);
+        let code = self.source_config_code(&config, vps);
         if !is_accepted(code) {
             return bare_reply(code);
         }

@@ -5,6 +5,7 @@
 mod configuring;
 mod pages;
 mod passes;
+pub mod presenting;
 mod reading;
 mod routing;
 pub mod tables;

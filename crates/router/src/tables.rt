@@ -37,6 +37,7 @@ impl Model for Tables {
     ghost use Rattle.xv_base.specs.Limits.{ends_per_processor, most_messages};
     ghost use Rattle.xv_model.specs.board.Boards.{IsBoard};
     ghost use Rattle.router.specs.Ends.{IsEnd};
+    ghost use Rattle.router.specs.Messages.{IsMessage};
     ghost use Rattle.router.specs.Tables.{Kept, IsEas};
 
     ghost Value = { Kept };
@@ -53,7 +54,8 @@ impl Model for Tables {
         × (vec_len t.eases ≡ t.board.limits.sources) × (vec_len t.routes ≡ t.board.limits.sources)
         × (length t.ends ≡ ends_per_processor * t.board.limits.processors)
         × All (IsEas t.board) t.eases.items × All (IsEnd t.board) t.ends
-        × (vec_len t.messages ≤ most_messages) × (most_messages ≤ vec_capacity t.messages) };
+        × (vec_len t.messages ≤ most_messages) × (most_messages ≤ vec_capacity t.messages)
+        × All (IsMessage t.board) t.messages.items };
 }
 
 /// The EAS that a source starts with: one that is claimed is valid and masked (QEMU's

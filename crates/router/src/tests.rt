@@ -2,6 +2,7 @@
 
 mod configuring;
 mod pages;
+mod presenting;
 mod queues;
 mod routes;
 
@@ -13,6 +14,7 @@ ghost use Rattle.end_queue.specs.Ends.{HasRoom};
 use crate::tables::Tables;
 use bitflags::Flags;
 use guest_ram::Ram;
+use nvt_backlog::Vps;
 use std::alloc::Global;
 use std::process::Abort;
 use xv_base::Limits;
@@ -123,11 +125,13 @@ fn is_memory_of(board: &Board, ram: &Ram) -> bool
     ram.fits(size, 0) && !ram.fits(size, 4)
 }
 
-/// The tables of a board, beside its memory. Each call asks first what the tables need to be told.
+/// The tables of a board, beside its memory and its processors. Each call asks first what the tables need to
+/// be told.
 #[derive(Drop)]
 pub struct Bench {
     pub tables: Tables,
     pub ram: Ram,
+    pub vps: Vps,
 }
 
 impl Bench {
@@ -142,7 +146,23 @@ impl Bench {
             Ok(ram) => ram,
             Err(_) => panic!(rt),
         };
-        Bench { tables, ram }
+        let vps = match Vps::build(alloc, board) {
+            Ok(vps) => vps,
+            Err(_) => panic!(rt),
+        };
+        Bench { tables, ram, vps }
+    }
+
+    /// The code of H_INT_SET_SOURCE_CONFIG.
+    pub fn set_source_config(&mut self, rt: &impl Abort, args: &[u64; 5]) -> i64 {
+        assert!(rt; self.vps.count() == self.tables.board().limits.processors);
+        self.tables.set_source_config(args, &self.vps).code
+    }
+
+    /// Connects a processor.
+    pub fn connect(&mut self, rt: &impl Abort, v: u32) {
+        assert!(rt; v < self.vps.count());
+        assert_eq!(rt; self.vps.connect(v), 0);
     }
 
     pub fn configure(&mut self, rt: &impl Abort, e: u32, config: &EndConfig) {

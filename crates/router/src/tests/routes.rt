@@ -25,7 +25,7 @@ fn outcomes_of_a_route(rt: HostRuntime) {
             }
         )
     );
-    assert_eq!(rt; bench.tables.set_source_config(&[2, 0, 0, 6, 7]).code, 0);
+    assert_eq!(rt; bench.set_source_config(&rt, &[2, 0, 0, 6, 7]), 0);
     assert!(rt;
         matches!(
             bench.routed(&rt, 2),
@@ -68,26 +68,14 @@ fn largest_counts(rt: HostRuntime) {
     };
     bench.configure(&rt, 510, &queue_of_16_mib);
     // Priority 7 is reserved, so END 510 is the last one that a source can have.
-    assert_eq!(rt;
-        bench.tables.set_source_config(&[2, 8191, 63, 7, 0]).code,
-        -57
-    );
+    assert_eq!(rt; bench.set_source_config(&rt, &[2, 8191, 63, 7, 0]), -57);
     bench.configure(&rt, 511, &config(1));
     assert_eq!(rt;
-        bench
-            .tables
-            .set_source_config(&[2, 8191, 63, 6, 0x7fff_ffff])
-            .code,
+        bench.set_source_config(&rt, &[2, 8191, 63, 6, 0x7fff_ffff]),
         0
     );
-    assert_eq!(rt;
-        bench.tables.set_source_config(&[2, 8190, 63, 6, 0]).code,
-        -55
-    );
-    assert_eq!(rt;
-        bench.tables.set_source_config(&[2, 8191, 62, 6, 0]).code,
-        -56
-    );
+    assert_eq!(rt; bench.set_source_config(&rt, &[2, 8190, 63, 6, 0]), -55);
+    assert_eq!(rt; bench.set_source_config(&rt, &[2, 8191, 62, 6, 0]), -56);
     assert!(rt;
         matches!(
             bench.route(&rt, 8191, 1),
@@ -123,7 +111,7 @@ fn largest_counts(rt: HostRuntime) {
 #[test]
 fn full_bus(rt: HostRuntime) {
     let bench = &mut Bench::build(&rt, rt.alloc(), &small_board());
-    assert_eq!(rt; bench.tables.set_source_config(&[0, 0, 0, 6, 0]).code, 0);
+    assert_eq!(rt; bench.set_source_config(&rt, &[0, 0, 0, 6, 0]), 0);
     bench.configure(&rt, 6, &config(7));
     for number in 1..=4096 {
         assert!(rt; matches!(bench.routed(&rt, number), Routed::Run { run: _ }));
@@ -135,6 +123,10 @@ fn full_bus(rt: HostRuntime) {
     assert_eq!(rt; bench.counts(&rt, 6), (4096, 0));
     // The next entry would stand there, and be of generation 1.
     assert_eq!(rt; bench.word(&rt, 0x4000), 0);
+    assert!(rt; bench.tables.end_present(4096).is_none());
+    assert!(rt; bench.tables.end_present(4095).is_some());
+    assert!(rt; matches!(bench.routed(&rt, 4097), Routed::Run { run: _ }));
+    assert!(rt; matches!(bench.route(&rt, 0, 4098), Outcome::BusFull));
 }
 
 /// How END 6 goes on with these flags and from this state, and the state after that.

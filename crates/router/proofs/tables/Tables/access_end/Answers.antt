@@ -33,6 +33,7 @@ invariant_of-self c =
       subst (λ (ends : List EndRecord). All (IsEnd i.board) ends) (sym set) (All-set (IsEnd i.board) i.ends c.args.e r (loaded_in_range i.board (end_in i.ends c.args.e) c.args.page c.args.offset old) k.5),
       k.6,
       k.7,
+      k.8,
     )
 
 pub returns-clause-outcome : goal.returns-clause-outcome

@@ -32,6 +32,7 @@ invariant_of-self c =
       subst (λ (ends : List EndRecord). All (IsEnd i.board) ends) (sym set) (All-set (IsEnd i.board) i.ends c.args.e r (configured_in_range i.board c.args.config.now valid) k.5),
       k.6,
       k.7,
+      k.8,
     )
 
 pub returns-clause-stands : goal.returns-clause-stands

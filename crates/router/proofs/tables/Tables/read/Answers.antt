@@ -34,6 +34,7 @@ invariant_of-self c =
       subst (λ (ends : List EndRecord). All (IsEnd i.board) ends) (sym set) (read_in_range i.board i.ends c.args.e c.read.result (inside c) k.5),
       k.6,
       k.7,
+      k.8,
     )
 
 pub returns-clause-outcome : goal.returns-clause-outcome

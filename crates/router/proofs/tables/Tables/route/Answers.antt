@@ -1,13 +1,16 @@
 use Rattle.std.proofs.Common.{◌<◌, ◌+◌, List, length, rules, subst, sym}
 use Rattle.std.specs.Prelude.{All}
+use Rattle.xv_model.specs.declared.messages.Message.{Message}
 use Rattle.end_queue.specs.declared.ends.EndRecord.{EndRecord}
 use Rattle.end_queue.specs.Ends.{HasCountsAtMost}
 use Rattle.router.specs.Ends.{IsEnd}
+use Rattle.router.specs.Messages.{IsMessage}
 use Rattle.router.specs.Tables.{Kept, IsEas, StandsFor}
 use Rattle.router.specs.Routing.{write_in}
 use Rattle.router.proofs.Memory.{routed_memory, routed_size}
 use Rattle.router.proofs.Ranges.{ends_in_range, ends_counted}
 use Rattle.router.proofs.Routed.{route_stands, route_answer, full_answer}
+use Rattle.router.proofs.Sent.{messages_in_range}
 use Rattle.router.proofs.tables.Tables.route.Goals as goal
 
 pub returns-then-len-eq-MOST_MESSAGES-clause-outcome : goal.returns-then-len-eq-MOST_MESSAGES-clause-outcome
@@ -32,6 +35,8 @@ invariant_of-self c =
       subst (λ (ends : List EndRecord). All (IsEnd i.board) ends) (sym c.route_by_eas-routed.ensures.ends) (ends_in_range i.board i.ends a end k.5),
       search rules,
       search rules,
+      subst (λ (messages : List Message). All (IsMessage i.board) messages) (sym c.route_by_eas-routed.ensures.messages)
+          (messages_in_range i.board c.args.s i.ends a i.messages.items end k.5 k.8),
     )
 
 pub returns-clause-outcome : goal.returns-clause-outcome
