@@ -1,0 +1,19 @@
+-- Lemmas.
+pub mod Accessed
+pub mod Connecting
+pub mod Kept
+pub mod Loads
+pub mod Moving
+pub mod OnRing
+pub mod OnThread
+pub mod Places
+pub mod Presents
+pub mod Refusals
+pub mod Remembering
+pub mod Results
+pub mod Shown
+pub mod ShownVps
+pub mod Skipping
+pub mod Starting
+pub mod Stepping
+pub mod Untouched

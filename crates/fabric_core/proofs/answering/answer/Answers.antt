@@ -1,0 +1,145 @@
+use Rattle.std.proofs.Common.{◌≡◌, true, ◌∷◌, refl, sym, ◌∙◌, ap, subst, inl, inr}
+use Rattle.std.proofs.lemmas.Bool.{eqb-true}
+use Rattle.xv_model.specs.declared.hypercalls.TheConstants.{H_INT_SET_SOURCE_CONFIG}
+use Rattle.xv_model.specs.declared.operations.Op.{Op}
+use Rattle.xv_model.specs.declared.operations.Op.TheVariants as op
+use Rattle.xv_model.specs.declared.outcomes.Outcome.TheVariants as out
+use Rattle.xv_model.specs.account.Legal.{legal}
+use Rattle.xv_model.specs.board.Validity.{valid}
+use Rattle.guest_ram.specs.Ram.{StandsFor as MemoryStandsFor}
+use Rattle.router.proofs.Ranges.{one_more_in_all}
+use Rattle.router.specs.Tables.{StandsFor as TablesStandFor}
+use Rattle.fabric_core.specs.Fabric.{IsRefusal}
+use Rattle.fabric_core.specs.Processors.{StandsFor as ProcessorsStandFor}
+use Rattle.fabric_core.proofs.Kept.{kept_connect, reply_fails}
+use Rattle.fabric_core.proofs.Remembering.{memory_kept}
+use Rattle.fabric_core.proofs.answering.answer.Goals as goal
+
+pub returns-in-EndEsb-clause-tables : goal.returns-in-EndEsb-clause-tables
+returns-in-EndEsb-clause-tables c = λ z h actor st ps counted.
+    subst (λ (p : Op). TablesStandFor c.access_end.new.self z (record { actor = actor; op = p; outcome = c.access_end.result } ∷ h)) (sym c.in-EndEsb.is) (c.access_end.ensures.stands z h actor st)
+
+pub returns-in-Route-clause-tables : goal.returns-in-Route-clause-tables
+returns-in-Route-clause-tables c = λ z h actor st ps counted.
+    subst (λ (p : Op). TablesStandFor c.route.new.self z (record { actor = actor; op = p; outcome = c.route.result } ∷ h)) (sym c.in-Route.is) (c.route.ensures.stands z h actor st (counted c.in-Route.s c.in-Route.is))
+
+pub returns-in-Take-clause-tables : goal.returns-in-Take-clause-tables
+returns-in-Take-clause-tables c = λ z h actor st ps counted.
+    subst (λ (p : Op). TablesStandFor c.take.new.tables z (record { actor = actor; op = p; outcome = c.take.result } ∷ h)) (sym c.in-Take.is) (c.take.ensures.tables z h actor st)
+
+pub returns-in-EndSet-clause-tables : goal.returns-in-EndSet-clause-tables
+returns-in-EndSet-clause-tables c = λ z h actor st ps counted.
+    subst (λ (p : Op). TablesStandFor c.configure.new.self z (record { actor = actor; op = p; outcome = out.Fine } ∷ h)) (sym c.in-EndSet.is) (c.configure.ensures.stands z h actor st)
+
+pub returns-in-Read-clause-tables : goal.returns-in-Read-clause-tables
+returns-in-Read-clause-tables c = λ z h actor st ps counted.
+    subst (λ (p : Op). TablesStandFor c.read.new.self z (record { actor = actor; op = p; outcome = c.read.result } ∷ h)) (sym c.in-Read.is) (c.read.ensures.stands z h actor st)
+
+-- the hypercall that is valid
+called : (c : goal.After-set_source_config) → c.args.op.now ≡ op.Hcall H_INT_SET_SOURCE_CONFIG c.in-Hcall.args
+called c = c.in-Hcall.is ∙ ap (λ n. op.Hcall n c.in-Hcall.args) (eqb-true c.in-Hcall.number H_INT_SET_SOURCE_CONFIG (subst (λ p. valid c.args.tables.now.board p ≡ true) c.in-Hcall.is c.requires.op))
+
+pub returns-in-Hcall-clause-tables : goal.returns-in-Hcall-clause-tables
+returns-in-Hcall-clause-tables c = λ z h actor st ps counted.
+    subst (λ (p : Op). TablesStandFor c.set_source_config.new.self z (record { actor = actor; op = p; outcome = out.Reply c.set_source_config.result } ∷ h)) (sym (called c)) (c.set_source_config.ensures.stands z h actor st)
+
+pub returns-in-EndEsb-clause-counts : goal.returns-in-EndEsb-clause-counts
+returns-in-EndEsb-clause-counts c = λ n all. one_more_in_all n c.access_end.new.self.ends (c.access_end.ensures.counts n all)
+
+pub returns-in-EndSet-clause-counts : goal.returns-in-EndSet-clause-counts
+returns-in-EndSet-clause-counts c = λ n all. one_more_in_all n c.configure.new.self.ends (c.configure.ensures.counts n all)
+
+pub returns-in-Hcall-clause-counts : goal.returns-in-Hcall-clause-counts
+returns-in-Hcall-clause-counts c = λ n all. one_more_in_all n c.set_source_config.new.self.ends (c.set_source_config.ensures.counts n all)
+
+pub returns-in-Take-clause-processors : goal.returns-in-Take-clause-processors
+returns-in-Take-clause-processors c = λ z h actor ps.
+    subst (λ (p : Op). ProcessorsStandFor c.take.new.processors z (record { actor = actor; op = p; outcome = c.take.result } ∷ h)) (sym c.in-Take.is) (c.take.ensures.processors z h actor ps)
+
+pub returns-in-Connect-clause-processors : goal.returns-in-Connect-clause-processors
+returns-in-Connect-clause-processors c = λ z h actor ps.
+    subst (λ (p : Op). ProcessorsStandFor c.connect.new.self z (record { actor = actor; op = p; outcome = c.connect.result } ∷ h)) (sym c.in-Connect.is) (c.connect.ensures.stands z h actor ps)
+
+pub returns-in-Restore-clause-processors : goal.returns-in-Restore-clause-processors
+returns-in-Restore-clause-processors c = λ z h actor ps.
+    subst (λ (p : Op). ProcessorsStandFor c.restore.new.self z (record { actor = actor; op = p; outcome = c.restore.result } ∷ h)) (sym c.in-Restore.is) (c.restore.ensures.stands z h actor ps)
+
+pub returns-in-Save-clause-processors : goal.returns-in-Save-clause-processors
+returns-in-Save-clause-processors c = λ z h actor ps.
+    subst (λ (p : Op). ProcessorsStandFor c.save.new.self z (record { actor = actor; op = p; outcome = c.save.result } ∷ h)) (sym c.in-Save.is) (c.save.ensures.stands z h actor ps)
+
+pub returns-in-Tima-clause-processors : goal.returns-in-Tima-clause-processors
+returns-in-Tima-clause-processors c = λ z h actor ps.
+    subst (λ (p : Op). ProcessorsStandFor c.access_tima.new.processors z (record { actor = actor; op = p; outcome = c.access_tima.result } ∷ h)) (sym c.in-Tima.is) (c.access_tima.ensures.processors z h actor ps)
+
+pub returns-in-Connect-clause-outcome : goal.returns-in-Connect-clause-outcome
+returns-in-Connect-clause-outcome c = λ z h st ms ps counted. c.connect.ensures.outcome z h ps ∙ ap (legal z h) (sym c.in-Connect.is)
+
+pub returns-in-Tima-clause-outcome : goal.returns-in-Tima-clause-outcome
+returns-in-Tima-clause-outcome c = λ z h st ms ps counted. c.access_tima.ensures.outcome z h ps ∙ ap (legal z h) (sym c.in-Tima.is)
+
+pub returns-in-Zero-clause-outcome : goal.returns-in-Zero-clause-outcome
+returns-in-Zero-clause-outcome c = λ z h st ms ps counted. c.zero.ensures.outcome z h ms ∙ ap (legal z h) (sym c.in-Zero.is)
+
+pub returns-in-Route-clause-memory : goal.returns-in-Route-clause-memory
+returns-in-Route-clause-memory c = λ z h actor ms.
+    subst (λ (p : Op). MemoryStandsFor c.route.new.ram z (record { actor = actor; op = p; outcome = c.route.result } ∷ h)) (sym c.in-Route.is) (c.route.ensures.memory z h actor ms)
+
+pub returns-in-Zero-clause-memory : goal.returns-in-Zero-clause-memory
+returns-in-Zero-clause-memory c = λ z h actor ms.
+    subst (λ (p : Op). MemoryStandsFor c.zero.new.ram z (record { actor = actor; op = p; outcome = c.zero.result } ∷ h)) (sym c.in-Zero.is) (c.zero.ensures.memory z h actor ms)
+
+pub returns-in-Take-clause-memory : goal.returns-in-Take-clause-memory
+returns-in-Take-clause-memory c = λ z h actor ms.
+    subst (λ (p : Op). MemoryStandsFor c.args.ram.now z (record { actor = actor; op = p; outcome = c.take.result } ∷ h)) (sym c.in-Take.is)
+    (memory_kept c.args.ram.now z h (record { actor = actor; op = op.Take c.in-Take.i; outcome = c.take.result }) (λ a. rw c.take.ensures.no_run refl) ms)
+
+-- ---- what is refused, by the operation
+pub returns-in-EndEsb-clause-refused : goal.returns-in-EndEsb-clause-refused
+returns-in-EndEsb-clause-refused c = λ r. (c.access_end.ensures.refused (subst (λ (p : Op). IsRefusal p c.access_end.result) c.in-EndEsb.is r), refl, refl)
+
+pub returns-in-Route-clause-refused : goal.returns-in-Route-clause-refused
+returns-in-Route-clause-refused c = λ r.
+    let same = c.route.ensures.refused (subst (λ (p : Op). IsRefusal p c.route.result) c.in-Route.is r) in
+    (same.0, same.1, refl)
+
+pub returns-in-Take-clause-refused : goal.returns-in-Take-clause-refused
+returns-in-Take-clause-refused c = λ r.
+    let same = c.take.ensures.refused (subst (λ (p : Op). IsRefusal p c.take.result) c.in-Take.is r) in
+    (same.0, refl, same.1)
+
+pub returns-in-EndSet-clause-refused : goal.returns-in-EndSet-clause-refused
+returns-in-EndSet-clause-refused c = λ r. absurd (subst (λ (p : Op). IsRefusal p out.Fine) c.in-EndSet.is r)
+
+pub returns-in-Connect-clause-refused : goal.returns-in-Connect-clause-refused
+returns-in-Connect-clause-refused c = λ r.
+    let u = subst (λ (p : Op). IsRefusal p c.connect.result) c.in-Connect.is r in
+    (refl, refl, kept_connect c.args.processors.now c.connect.new.self c.connect.result u.0 c.in-Connect.v c.args.processors.now.vps.servers c.connect.ensures.accepted.1 c.connect.ensures.refused u.1 u.2)
+
+pub returns-in-Restore-clause-refused : goal.returns-in-Restore-clause-refused
+returns-in-Restore-clause-refused c = λ r.
+    let u = subst (λ (p : Op). IsRefusal p c.restore.result) c.in-Restore.is r in
+    (refl, refl, c.restore.ensures.refused u.0 u.1)
+
+pub returns-in-Save-clause-refused : goal.returns-in-Save-clause-refused
+returns-in-Save-clause-refused c = λ r.
+    let u = subst (λ (p : Op). IsRefusal p c.save.result) c.in-Save.is r in
+    (refl, refl, c.save.ensures.refused u.0 u.1)
+
+pub returns-in-Tima-clause-refused : goal.returns-in-Tima-clause-refused
+returns-in-Tima-clause-refused c = λ r.
+    elim (subst (λ (p : Op). IsRefusal p c.access_tima.result) c.in-Tima.is r) [
+      | inl bad ↦ (refl, refl, c.access_tima.ensures.bad_access bad)
+      | inr why ↦ (refl, refl, c.access_tima.ensures.refused why.0 why.1)
+    ]
+
+pub returns-in-Hcall-clause-refused : goal.returns-in-Hcall-clause-refused
+returns-in-Hcall-clause-refused c = λ r.
+    let u = subst (λ (p : Op). IsRefusal p (out.Reply c.set_source_config.result)) c.in-Hcall.is r in
+    (c.set_source_config.ensures.refused (reply_fails c.set_source_config.result u.0 u.1 u.2), refl, refl)
+
+pub returns-in-Read-clause-refused : goal.returns-in-Read-clause-refused
+returns-in-Read-clause-refused c = λ r. (c.read.ensures.refused (subst (λ (p : Op). IsRefusal p c.read.result) c.in-Read.is r), refl, refl)
+
+pub returns-in-Zero-clause-refused : goal.returns-in-Zero-clause-refused
+returns-in-Zero-clause-refused c = λ r. (refl, c.zero.ensures.refused (subst (λ (p : Op). IsRefusal p c.zero.result) c.in-Zero.is r), refl)
