@@ -2,6 +2,7 @@
 pub mod Accesses
 pub mod Burdens
 pub mod Notices
+pub mod Silent
 pub mod Starting
 pub mod Stepping
 pub mod Words

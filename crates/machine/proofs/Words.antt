@@ -17,9 +17,9 @@ use Rattle.xv_model.specs.source.Notices.{forwards, routes}
 use Rattle.xv_model.proofs.HalvesLemmas.{routes-skips}
 use Rattle.esb_pq.specs.Word.{SourceParts}
 use Rattle.esb_pq.specs.Applied.{cell_at, by_cell, by_table, word_in}
-use Rattle.router.specs.Tables.{Kept}
 use Rattle.router.proofs.Elements.{set_gives}
-use Rattle.router.proofs.Keeping.{word_keeps}
+use Rattle.fabric_core.specs.Fabric.{Held as FabricHeld}
+use Rattle.fabric_core.proofs.Skipping.{fabric-skips}
 use Rattle.machine.specs.Machine.{AreParts, word_of}
 
 -- an operation is o on the word of s
@@ -87,19 +87,18 @@ more_forwards : (z : Start) (h : List Entry) (x : Entry) (q : ℕ) → forwards 
 more_forwards z h x q = omega arith
 
 -- the parts after an entry on the word of s
-pub word_parts : (t : Kept) (words : List SourceParts) (z : Start) (h : List Entry) (x : Entry) (s : ℕ) (o : PqOp) (level : Bool)
-    (w w' : SourceParts) → AreParts t words z h → IsOn z.board x.op s o → s < z.board.limits.sources →
+pub word_parts : (f : FabricHeld) (words : List SourceParts) (z : Start) (h : List Entry) (x : Entry) (s : ℕ) (o : PqOp) (level : Bool)
+    (w w' : SourceParts) → AreParts f words z h → IsOn z.board x.op s o → s < z.board.limits.sources →
     w ≡ word_of z h s → x.outcome ≡ answer_at o level w → w' ≡ word_past o level w →
-    AreParts t (slice_set words s w') z (x ∷ h)
-word_parts t words z h x s o level w w' st on l same answer now = record {
-  tables = word_keeps t z h x (on_word z.board x.op s o on) st.tables;
+    AreParts f (slice_set words s w') z (x ∷ h)
+word_parts f words z h x s o level w w' st on l same answer now = record {
+  fabric = fabric-skips f z h x (on_word z.board x.op s o on) st.fabric;
   words = set_gives words s z.board.limits.sources w' (word_of z h) (word_of z (x ∷ h)) st.words l mine
       (λ q other. untouched z h x s q o on other);
   forwarded = λ q.
       let before = st.forwarded q in
       let more = more_forwards z h x q in
       let routed = same_routes z h x s q o on in omega (arith, before, more, routed);
-  idle = st.idle;
 }
   where
     mine : w' ≡ word_of z (x ∷ h) s

@@ -1,9 +1,14 @@
 -- What a step goes by: how a source answers accesses to its pages, and what an outcome does to the notices that are
 -- outstanding.
-use Rattle.std.specs.Prelude.{ℕ, ◌==◌, Bool, if◌then◌else◌}
+use Rattle.std.specs.Prelude.{ℕ, ◌==◌, Bool, false, if◌then◌else◌, List, Option, Some, None, slice_index_or}
 use Rattle.xv_model.specs.declared.board.Board.{Board}
 use Rattle.xv_model.specs.declared.outcomes.Outcome.{Outcome}
 use Rattle.xv_model.specs.declared.outcomes.Outcome.TheVariants as out
+use Rattle.xv_model.specs.declared.operations.Op.{Op}
+use Rattle.xv_model.specs.declared.operations.Op.TheVariants as op
+use Rattle.xv_model.specs.account.Kinds.{WordAccess as AnAccess}
+use Rattle.esb_pq.specs.Word.{SourceParts}
+use Rattle.machine.specs.declared.accessing.WordAccess.{WordAccess}
 use Rattle.esb_mmio.specs.declared.pages.SourceKind.{SourceKind}
 
 -- the kind of a source of a board that is a level source or not
@@ -19,3 +24,13 @@ forwarded_in _ = 0
 abbrev pub consumed_in : Outcome → ℕ
 consumed_in (out.Routed k routed) = 1
 consumed_in _ = 0
+
+-- an access to the word of a source, in the account's terms
+abbrev pub as_access : Option WordAccess → Option AnAccess
+as_access (Some a) = Some (record { source = a.s; op = a.op })
+as_access None = None
+
+-- how often the source forwarded whose notice an operation routes
+abbrev pub forwards_for : List SourceParts → Op → ℕ
+forwards_for words (op.Route s) = (slice_index_or words s (record { pq = 0; asserted = false; count = 0 })).count
+forwards_for words _ = 0

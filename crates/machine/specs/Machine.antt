@@ -1,7 +1,6 @@
 -- What a machine keeps, and which account it represents.
 use Rattle.std.specs.Prelude.{ℕ, ◌≡◌, ◌+◌, ◌*◌, ◌<◌, ◌≤◌, Bool, List, length, Some, slice_get, slice_index_or}
 use Rattle.xv_model.specs.declared.board.Board.{Board}
-use Rattle.xv_model.specs.declared.outcomes.Phase.TheVariants.{Saved}
 use Rattle.xv_model.specs.declared.entries.Entry.{Entry}
 use Rattle.xv_model.specs.board.Boards.{is_level}
 use Rattle.xv_model.specs.account.Start.{Start}
@@ -10,14 +9,12 @@ use Rattle.xv_model.specs.source.Pairs.{pq, asserted}
 use Rattle.xv_model.specs.source.Notices.{forwards, routes, all_outstanding}
 use Rattle.xv_model.specs.account.Index.{next_index}
 use Rattle.esb_pq.specs.Word.{SourceParts}
-use Rattle.guest_ram.specs.Ram.{StandsFor as MemoryStandsFor}
-use Rattle.router.specs.Tables.{Kept, StandsFor as TablesStandFor}
+use Rattle.fabric_core.specs.Fabric.{Held as FabricHeld, StandsFor as FabricStandsFor}
 
--- what a machine keeps: the router's tables, the words of memory, those of sources, how many entries were
--- made, and how many notices are outstanding
+-- what a machine keeps: the fabric, the words of sources, how many entries were made, and how many notices are
+-- outstanding
 pub record Held : Type 0 where
-  pub tables : Kept
-  pub memory : List ℕ
+  pub fabric : FabricHeld
   pub words : List SourceParts
   pub count : ℕ
   pub notices : ℕ
@@ -30,29 +27,19 @@ word_of z h s = record { pq = pq z h s; asserted = asserted z h s; count = forwa
 abbrev pub AreLevels : Board → List Bool → Type 0
 AreLevels b levels = (s : ℕ) (d : Bool) → s < length levels → slice_index_or levels s d ≡ is_level b s
 
--- a processor is as at the start: no operation that is built moves its context
-pub record IsIdle (z : Start) (v : ℕ) : Type 0 where
-  pub phase : z.phase v ≡ Saved
-  pub cppr : z.cppr v ≡ 0
-  pub ipb : z.ipb v ≡ 0
-  pub backlog : z.backlog v ≡ 0
-
--- the router's tables and the words of sources keep what the account gives, which routed no more
--- notices than it forwarded
-pub record AreParts (t : Kept) (ws : List SourceParts) (z : Start) (h : List Entry) : Type 0 where
-  pub tables : TablesStandFor t z h
+-- the fabric and the words of sources keep what the account gives, which routed no more notices than it forwarded
+pub record AreParts (f : FabricHeld) (ws : List SourceParts) (z : Start) (h : List Entry) : Type 0 where
+  pub fabric : FabricStandsFor f z h
   pub words : (s : ℕ) → s < z.board.limits.sources → slice_get ws s ≡ Some (word_of z h s)
   pub forwarded : (s : ℕ) → routes z h s ≤ forwards z h s
-  pub idle : (v : ℕ) → v < z.board.limits.processors → IsIdle z v
 
--- the machine represents the account: its parts, its memory and its counts are what the account gives
+-- the machine represents the account: its parts and its counts are what the account gives
 pub record StandsFor (m : Held) (z : Start) (h : List Entry) : Type 0 where
-  pub parts : AreParts m.tables m.words z h
-  pub memory : MemoryStandsFor m.memory z h
+  pub parts : AreParts m.fabric m.words z h
   pub index : m.count ≡ next_index z h
   pub notices : m.notices ≡ all_outstanding z h
 
 -- what is still to be done with the notices and messages of a machine: the burden of the account that it
 -- represents
 abbrev pub burden_of : Held → ℕ
-burden_of m = 4 * m.notices + weight m.tables.messages
+burden_of m = 4 * m.notices + weight m.fabric.tables.messages

@@ -8,7 +8,7 @@ impl Known for Machine {
 
     ghost knows = { StandsFor };
 
-    ghost sources = { λ m. m.tables.board.limits.sources };
+    ghost sources = { λ m. m.fabric.tables.board.limits.sources };
 
     fn out(&self, s: u32) -> u64 {
         let source = self.source(s);
@@ -16,7 +16,7 @@ impl Known for Machine {
     }
 
     fn initialised(&self, s: u32) -> bool {
-        self.tables.initialised(s)
+        self.fabric.initialised(s)
     }
 
     fn pq(&self, s: u32) -> u8 {

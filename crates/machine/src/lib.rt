@@ -7,14 +7,14 @@
 //! whether the board has an operation, and may ask a machine for any of its parts between two steps.
 #![tactic(auto)]
 
+mod accessing;
 mod answering;
 mod known;
 mod levels;
 mod machine;
-mod memory;
 #[cfg(test)]
 mod tests;
 mod views;
 
 pub use machine::Machine;
-pub use views::{ProcessorView, QueueView, RingView, SourceView};
+pub use views::SourceView;

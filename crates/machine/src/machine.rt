@@ -1,6 +1,6 @@
 //! A machine of a board.
 
-ghost use Rattle.std.specs.Prelude.{◌≡◌, ◌+◌, ◌*◌, ◌^◌, ◌<◌, ◌≤◌, ◌∷◌, [], length, List, IsTrue, IfOk};
+ghost use Rattle.std.specs.Prelude.{◌≡◌, ◌+◌, ◌*◌, ◌<◌, ◌≤◌, ◌∷◌, [], length, List, IsTrue, IfOk};
 ghost use Rattle.xv_base.specs.Limits.{ends_per_processor, most_entries, most_messages};
 ghost use Rattle.xv_model.specs.declared.entries.Entry.{Entry as AnEntry};
 ghost use Rattle.xv_model.specs.board.Boards.{IsBoard};
@@ -9,31 +9,29 @@ ghost use Rattle.xv_model.specs.account.Legal.{legal};
 ghost use Rattle.xv_model.specs.account.Outcomes.{IsWellFormed};
 ghost use Rattle.xv_model.specs.board.Validity.{valid};
 ghost use Rattle.machine.specs.Machine.{StandsFor};
-ghost use Rattle.machine.specs.Views.{IsQueue, source_view, queue_view, processor_view, free_ring};
+ghost use Rattle.machine.specs.Views.{source_view};
+ghost use Rattle.fabric_core.specs.Fabric.{IsQueue, queue_view};
+ghost use Rattle.fabric_core.specs.Processors.{vp_of, ring_shown};
 
-use crate::answering::{answer, consumed_by, notices_of};
+use crate::answering::{consumed_by, enter, notices_of};
 use crate::levels::levels_of;
-use crate::views::{ProcessorView, QueueView, RingView, SourceView};
+use crate::views::SourceView;
 use esb_pq::SourceWord;
-use guest_ram::Ram;
-use router::tables::Tables;
+use fabric_core::{Fabric, QueueView};
+use nvt_backlog::Vp;
 use std::alloc::Global;
 use std::marker::Model;
+use thread_context::Ring;
 use xv_base::NoMemory;
 use xv_model::board::Board;
 use xv_model::entries::Entry;
 use xv_model::operations::Op;
-use xv_model::outcomes::Phase;
 
-/// The bytes of a MiB.
-const MIB: u64 = 1 << 20;
-
-/// The state of a board: the router's tables, the memory, a word for each source and whether it is a
-/// level source, how many entries were made, and how many notices are outstanding.
+/// The state of a board: the fabric, a word for each source and whether it is a level source, how many entries
+/// were made, and how many notices are outstanding.
 #[derive(Drop)]
 pub struct Machine {
-    pub(crate) tables: Tables,
-    ram: Ram,
+    pub(crate) fabric: Fabric,
     pub(crate) words: Vec<SourceWord>,
     levels: Vec<bool>,
     count: u64,
@@ -41,26 +39,23 @@ pub struct Machine {
 }
 
 impl Model for Machine {
-    ghost use Rattle.std.specs.Prelude.{◌≡◌, ◌≤◌, ◌*◌, length, vec_len, All};
-    ghost use Rattle.xv_model.specs.board.Validity.{ram_size};
+    ghost use Rattle.std.specs.Prelude.{◌≡◌, ◌≤◌, vec_len, All};
     ghost use Rattle.end_queue.specs.Ends.{HasCountsAtMost};
     ghost use Rattle.machine.specs.Machine.{Held, AreLevels};
 
     ghost Value = { Held };
 
     ghost view = { λ m. record {
-      tables = m.tables;
-      memory = m.ram;
+      fabric = m.fabric;
       words = m.words.items;
       count = m.count;
       notices = m.notices;
     } };
 
-    ghost invariant = { λ m. (vec_len m.words ≡ m.tables.board.limits.sources)
-        × (vec_len m.levels ≡ m.tables.board.limits.sources)
-        × AreLevels m.tables.board m.levels.items
-        × (4 * length m.ram ≡ ram_size m.tables.board)
-        × (m.notices ≤ m.count) × All (HasCountsAtMost m.count) m.tables.ends };
+    ghost invariant = { λ m. (vec_len m.words ≡ m.fabric.tables.board.limits.sources)
+        × (vec_len m.levels ≡ m.fabric.tables.board.limits.sources)
+        × AreLevels m.fabric.tables.board m.levels.items
+        × (m.notices ≤ m.count) × All (HasCountsAtMost m.count) m.fabric.tables.ends };
 }
 
 impl Machine {
@@ -68,13 +63,12 @@ impl Machine {
     /// when. No other call takes memory.
     pub fn build(alloc: Global, board: &Board) -> Result<Machine, NoMemory>
         requires board { IsBoard board.now }
-        ensures board { IfOk result (λ m. m.tables.board ≡ board.now) }
+        ensures board { IfOk result (λ m. m.fabric.tables.board ≡ board.now) }
         ensures count { IfOk result (λ m. m.count ≡ 0) }
         ensures stands { IfOk result (λ m. StandsFor m (start board.now) []) }
     {
         Ok(Machine {
-            tables: Tables::build(alloc, board)?,
-            ram: Ram::new(alloc, board.ram_mib as u64 * MIB)?,
+            fabric: Fabric::build(alloc, board)?,
             words: vec![in alloc; SourceWord::off(); board.limits.sources as usize]?,
             levels: levels_of(alloc, board)?,
             count: 0,
@@ -84,10 +78,10 @@ impl Machine {
 
     /// The board.
     pub fn board(&self) -> &Board
-        ensures value { result.now ≡ self.now.tables.board }
+        ensures value { result.now ≡ self.now.fabric.tables.board }
         ensures board { IsBoard result.now }
     {
-        self.tables.board()
+        self.fabric.board()
     }
 
     /// How many entries were made.
@@ -107,7 +101,7 @@ impl Machine {
 
     /// A source.
     pub fn source(&self, s: u32) -> SourceView
-        requires { s < self.now.tables.board.limits.sources }
+        requires { s < self.now.fabric.tables.board.limits.sources }
         ensures value { (z : Start) (h : List AnEntry)
             → StandsFor self.now z h → result ≡ source_view z h s }
         ensures in_range { result.pq < 4 }
@@ -117,71 +111,50 @@ impl Machine {
             pq: word.pq(),
             asserted: word.asserted(),
             forwards: word.count(),
-            routes: self.tables.routes(s),
+            routes: self.fabric.routes(s),
         }
     }
 
     /// An END.
     pub fn queue(&self, e: u32) -> QueueView
-        requires { e < ends_per_processor * self.now.tables.board.limits.processors }
+        requires { e < ends_per_processor * self.now.fabric.tables.board.limits.processors }
         ensures value { (z : Start) (h : List AnEntry)
             → StandsFor self.now z h → result ≡ queue_view z h e }
-        ensures in_range { IsQueue self.now.tables.board result }
+        ensures in_range { IsQueue self.now.fabric.tables.board result }
     {
-        let ends = self.tables.ends();
-        QueueView {
-            config: *ends.config(e),
-            written: ends.written(e),
-            taken: ends.taken(e),
-            esn: ends.esn(e),
-            ese: ends.ese(e),
-        }
+        self.fabric.queue(e)
     }
 
-    /// A processor. No operation that is built moves its context, so it is as at the start.
-    pub fn processor(&self, v: u32) -> ProcessorView
-        requires { v < self.now.tables.board.limits.processors }
-        ensures { (z : Start) (h : List AnEntry)
-            → StandsFor self.now z h → result ≡ processor_view z h v }
+    /// A processor: whether it is connected, where its context is, and what is kept of it beside the rings.
+    pub fn processor(&self, v: u32) -> Vp
+        requires { v < self.now.fabric.tables.board.limits.processors }
+        ensures { (z : Start) (h : List AnEntry) → StandsFor self.now z h → result ≡ vp_of z h v }
     {
-        ProcessorView {
-            connected: !self.board().unconnected.has(v),
-            phase: Phase::Saved,
-            cppr: 0,
-            ipb: 0,
-            backlog: 0,
-        }
+        self.fabric.processor(v)
     }
 
-    /// The OS ring of a thread. No operation that is built uses one, so it is free.
-    pub fn ring(&self, t: u32) -> RingView
-        requires { t < self.now.tables.board.limits.threads }
-        ensures { result ≡ free_ring }
+    /// The OS ring of a thread.
+    pub fn ring(&self, t: u32) -> Ring
+        requires { t < self.now.fabric.tables.board.limits.threads }
+        ensures { (z : Start) (h : List AnEntry) → StandsFor self.now z h → result ≡ ring_shown z h t }
     {
-        let _ = t;
-        RingView {
-            nsr: 0,
-            cppr: 0,
-            ipb: 0,
-            pipr: 0xff,
-            cam: 0,
-        }
+        self.fabric.ring(t)
     }
 
     /// How many messages are in flight.
     pub fn flight(&self) -> u32
-        ensures value { result ≡ length self.now.tables.messages }
+        ensures value { result ≡ length self.now.fabric.tables.messages }
         ensures few { result ≤ most_messages }
     {
-        self.tables.flight()
+        self.fabric.flight()
     }
 
     /// Makes one entry: what an operation by an actor answers. The board has the operation, and the
     /// machine has made no more entries than an account may have.
     pub fn step(&mut self, actor: u32, op: &Op) -> Entry
-        requires op { IsTrue (valid self.old.tables.board op.now) }
+        requires op { IsTrue (valid self.old.fabric.tables.board op.now) }
         requires count { self.old.count ≤ most_entries }
-        ensures board { self.new.tables.board ≡ self.old.tables.board }
+        ensures board { self.new.fabric.tables.board ≡ self.old.fabric.tables.board }
         ensures count { self.new.count ≡ self.old.count + 1 }
         ensures actor { result.actor ≡ actor }
         ensures op { result.op ≡ op.now }
@@ -191,20 +164,12 @@ impl Machine {
         ensures stands { (z : Start) (h : List AnEntry)
             → StandsFor self.old z h → StandsFor self.new z (result ∷ h) }
     {
-        let outcome = answer(
-            &mut self.tables,
-            &mut self.ram,
-            &mut self.words,
-            &self.levels,
-            op,
-        );
+        let entry = enter(&mut self.fabric, &mut self.words, &self.levels, actor, op);
         self.count += 1;
         // A notice that is consumed was outstanding.
-        self.notices = (self.notices + notices_of(&outcome)).saturating_sub(consumed_by(&outcome));
-        Entry {
-            actor,
-            op: *op,
-            outcome,
-        }
+        self.notices = (self.notices + notices_of(&entry.outcome)).saturating_sub(consumed_by(
+            &entry.outcome,
+        ));
+        entry
     }
 }

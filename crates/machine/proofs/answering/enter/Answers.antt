@@ -1,0 +1,58 @@
+use Rattle.std.proofs.Common.{◌≡◌, ◌<◌, true, List, None, refl, sym, ◌∙◌, ap, subst, slice_index_or, slice_set}
+use Rattle.xv_model.specs.declared.board.Board.{Board}
+use Rattle.xv_model.specs.declared.entries.Entry.{Entry}
+use Rattle.xv_model.specs.account.Start.{Start}
+use Rattle.xv_model.specs.account.Kinds.{access_of}
+use Rattle.xv_model.specs.account.Legal.{legal}
+use Rattle.xv_model.specs.board.Boards.{is_level}
+use Rattle.xv_model.specs.board.Validity.{valid}
+use Rattle.fabric_core.specs.Fabric.{IsCounted}
+use Rattle.machine.specs.Machine.{AreParts}
+use Rattle.machine.proofs.Stepping.{Steps, word_steps, fabric_steps, counted, valid_route}
+use Rattle.machine.proofs.answering.enter.Goals as goal
+
+word : (c : goal.After-touch) (z : Start) (h : List Entry) → AreParts c.args.fabric.now c.args.words.now z h →
+    Steps c.args.fabric.now c.args.words.now c.args.fabric.now (slice_set c.args.words.now c.in-Some.access.s c.touch.new.word) z h
+    (record { actor = c.args.actor; op = c.args.op.now; outcome = c.touch.result })
+word c z h st =
+    let a = c.in-Some.access in
+    let b : c.args.fabric.now.tables.board ≡ z.board = st.fabric.tables.board in
+    let below : a.s < c.args.fabric.now.tables.board.limits.sources = subst (λ (b : Board). a.s < b.limits.sources) c.board.ensures.value c.in-Some.ensures.source in
+    let inside = subst (λ (b : Board). a.s < b.limits.sources) b below in
+    let on = sym (ap (λ (b : Board). access_of b c.args.op.now) (c.board.ensures.value ∙ b)) ∙ c.in-Some.ensures.value in
+    let level = c.requires.levels a.s _ (subst (λ n. a.s < n) (sym c.requires.sources) below) ∙ ap (λ (b : Board). is_level b a.s) b in
+    word_steps c.args.fabric.now c.args.words.now z h (record { actor = c.args.actor; op = c.args.op.now; outcome = c.touch.result }) a.s a.op _
+    (slice_index_or c.args.words.now a.s c.index-words-access.result) c.touch.new.word
+    c.index-words-access.result st on inside level refl c.touch.ensures.outcome c.touch.ensures.word
+
+pub returns-in-Some-clause-parts : goal.returns-in-Some-clause-parts
+returns-in-Some-clause-parts c = λ z h st. (word c z h st).parts
+
+pub returns-in-Some-clause-notices : goal.returns-in-Some-clause-notices
+returns-in-Some-clause-notices c = λ z h st. (word c z h st).notices
+
+-- the forwards that are handed in are those of the source that is routed
+is_counted : (c : goal.After-step) (z : Start) (h : List Entry) → AreParts c.args.fabric.now c.args.words.now z h → IsCounted c.args.op.now c.forwards.result z h
+is_counted c z h st = λ s is.
+    let here = subst (λ (b : Board). s < b.limits.sources) st.fabric.tables.board (valid_route c.args.fabric.now.tables.board c.args.op.now s is c.requires.op) in
+    c.forwards.ensures ∙ counted c.args.fabric.now c.args.words.now z h c.args.op.now s st here is
+
+beside : (c : goal.After-step) (z : Start) (h : List Entry) → AreParts c.args.fabric.now c.args.words.now z h →
+    Steps c.args.fabric.now c.args.words.now c.step.new.self c.args.words.now z h c.step.result
+beside c z h st =
+    let b : c.args.fabric.now.tables.board ≡ z.board = st.fabric.tables.board in
+    let none = sym (ap (λ (b : Board). access_of b c.args.op.now) (c.board.ensures.value ∙ b)) ∙ c.in-None.ensures.value in
+    let here = subst (λ p. access_of z.board p ≡ None) (sym c.step.ensures.op) none in
+    let v = subst (λ p. valid z.board p ≡ true) (sym c.step.ensures.op) (subst (λ (b : Board). valid b c.args.op.now ≡ true) b c.requires.op) in
+    let counts = is_counted c z h st in
+    fabric_steps c.args.fabric.now c.step.new.self c.args.words.now z h c.step.result st here v
+    (c.step.ensures.outcome z h st.fabric counts ∙ ap (legal z h) (sym c.step.ensures.op)) (c.step.ensures.stands z h st.fabric counts)
+
+pub returns-in-None-clause-outcome : goal.returns-in-None-clause-outcome
+returns-in-None-clause-outcome c = λ z h st. c.step.ensures.outcome z h st.fabric (is_counted c z h st)
+
+pub returns-in-None-clause-parts : goal.returns-in-None-clause-parts
+returns-in-None-clause-parts c = λ z h st. (beside c z h st).parts
+
+pub returns-in-None-clause-notices : goal.returns-in-None-clause-notices
+returns-in-None-clause-notices c = λ z h st. (beside c z h st).notices
