@@ -3,7 +3,6 @@ use Rattle.std.specs.Prelude.{ℕ, ◌*◌, zero, suc, if◌then◌else◌, List
 use Rattle.xv_base.specs.Limits.{ends_per_processor}
 use Rattle.xv_model.specs.declared.entries.Entry.{Entry}
 use Rattle.xv_model.specs.declared.board.Board.{Board}
-use Rattle.xv_model.specs.declared.outcomes.Phase.TheVariants.{Saved}
 use Rattle.xv_model.specs.account.Index.{next_index}
 use Rattle.xv_model.specs.account.Start.{Start, start}
 use Rattle.xv_model.specs.source.Pairs.{pq, asserted}
@@ -13,6 +12,8 @@ use Rattle.xv_model.specs.end.EventStates.{esn, ese}
 use Rattle.xv_model.specs.end.Written.{written_count}
 use Rattle.xv_model.specs.end.Reading.{taken_count}
 use Rattle.xv_model.specs.route.Flight.{flight}
+use Rattle.xv_model.specs.processor.Phases.{is_connected, phase}
+use Rattle.xv_model.specs.processor.Registers.{saved_cppr, saved_ipb, backlog, ring}
 use Rattle.account.specs.text.Report.{end_line, source_line, queue_line, processor_line, ring_line, flight_line, notices_line, done_line}
 pub use Rattle.account.specs.text.Entry.{entry_line}
 pub use Rattle.account.specs.text.Header.{header_text}
@@ -37,13 +38,16 @@ queue_line_of z h e =
     let c = end_config z h e in
     queue_line e c.flags.0 (written_count z h e) (taken_count z h e) (esn z h e) (ese z h e)
 
--- the line of processor v, where it is connected: no operation that is built moves its context
-abbrev pub processor_line_of : Start → ℕ → List ℕ
-processor_line_of z v = if z.is_connected v then processor_line v Saved 0 0 0 else []
+-- the line of processor v, where it is connected
+abbrev pub processor_line_of : Start → List Entry → ℕ → List ℕ
+processor_line_of z h v =
+    if is_connected z h v then processor_line v (phase z h v) (saved_cppr z h v) (saved_ipb z h v) (backlog z h v) else []
 
--- the line of the ring of thread t: no operation that is built uses one
-abbrev pub ring_line_of : ℕ → List ℕ
-ring_line_of t = ring_line t 0 0 0 0xff 0
+-- the line of the ring of thread t
+abbrev pub ring_line_of : Start → List Entry → ℕ → List ℕ
+ring_line_of z h t =
+    let r = ring z h t in
+    ring_line t r.nsr r.cppr r.ipb r.pipr r.cam
 
 -- the report of an account: its end, its sources, queues, processors and rings, and what is on its way
 abbrev pub report_text : Start → List Entry → List ℕ
@@ -51,8 +55,8 @@ report_text z h =
     end_line (next_index z h)
     ++ texts_below (source_line_of z h) z.board.limits.sources
     ++ texts_below (queue_line_of z h) (ends_per_processor * z.board.limits.processors)
-    ++ texts_below (processor_line_of z) z.board.limits.processors
-    ++ texts_below ring_line_of z.board.limits.threads
+    ++ texts_below (processor_line_of z h) z.board.limits.processors
+    ++ texts_below (ring_line_of z h) z.board.limits.threads
     ++ flight_line (length (flight z h)) ++ notices_line (all_outstanding z h) ++ done_line
 
 -- the text of a whole account of a board

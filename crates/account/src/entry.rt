@@ -11,22 +11,31 @@ use crate::numbers::{add, add_number, add_short_number};
 use crate::operations::add_op;
 use crate::outcomes::add_outcome;
 use arrayvec::ArrayVec;
-use xv_model::entries::Entry;
+use xv_model::operations::Op;
+use xv_model::outcomes::Outcome;
 
-/// Appends the line of an entry, with its newline: the operation is one that is built.
-pub fn add_entry<const CAP: usize>(text: &mut ArrayVec<u8, CAP>, index: u64, entry: &Entry)
+/// Appends the line of an entry, with its newline: the operation is one that is built. It is handed the entry's
+/// parts, so that no caller has to copy an operation into an entry.
+pub fn add_entry<const CAP: usize>(
+    text: &mut ArrayVec<u8, CAP>,
+    index: u64,
+    actor: u32,
+    op: &Op,
+    outcome: &Outcome,
+)
     requires room { array_vec_len text.old + LONGEST_ENTRY ≤ CAP }
-    requires op { IsTrue (is_built entry.now.op) }
-    requires outcome { IsWellFormed entry.now.outcome }
-    ensures items { text.new.items ≡ text.old.items ++ entry_line index entry.now }
+    requires op { IsTrue (is_built op.now) }
+    requires outcome { IsWellFormed outcome.now }
+    ensures items { text.new.items ≡ text.old.items
+        ++ entry_line index (record { actor = actor; op = op.now; outcome = outcome.now }) }
     ensures len { array_vec_len text.new ≤ array_vec_len text.old + LONGEST_ENTRY }
 {
     add_number(text, index);
     text.push(b' ');
-    add_short_number(text, entry.actor);
+    add_short_number(text, actor);
     text.push(b' ');
-    add_op(text, &entry.op);
+    add_op(text, op);
     add(text, b" -> ");
-    add_outcome(text, &entry.outcome);
+    add_outcome(text, outcome);
     text.push(b'\n');
 }

@@ -3,12 +3,12 @@
 ghost use Rattle.std.specs.Prelude.{◌≡◌, ◌+◌, ◌≤◌, ◌++◌, true, IsTrue};
 ghost use Rattle.arrayvec.specs.ArrayVec.{array_vec_len};
 ghost use Rattle.xv_model.specs.board.Validity.{has_op};
-ghost use Rattle.account.specs.text.Operations.{pq_op_text, access_text, page_text, op_text, is_built, flag_text, flags_text, target_text, event_queue_text, escalation_text, config_text, arguments_text};
+ghost use Rattle.account.specs.text.Operations.{pq_op_text, access_text, page_text, tima_text, tima_access_text, op_text, is_processor_op, is_built, flag_text, flags_text, target_text, event_queue_text, escalation_text, config_text, arguments_text};
 
 use crate::numbers::{add, add_hex, add_pair, add_short_number};
 use arrayvec::ArrayVec;
 use bitflags::Flags;
-use xv_model::operations::{EndConfig, EndFlags, Op, PqOp};
+use xv_model::operations::{Access, EndConfig, EndFlags, Op, PqOp};
 
 /// The room that the text of an operation wants, in bytes.
 pub const LONGEST_OP: usize = 119;
@@ -33,6 +33,12 @@ const LONGEST_CONFIG: usize = 89;
 
 /// The room that the arguments of a hypercall want, in bytes.
 const LONGEST_ARGUMENTS: usize = 94;
+
+/// The room that an access to the TIMA wants without its word and its value, in bytes.
+const LONGEST_TIMA: usize = 51;
+
+/// The room that an access to the TIMA wants, in bytes.
+const LONGEST_TIMA_ACCESS: usize = 77;
 
 fn add_pq_op<const CAP: usize>(text: &mut ArrayVec<u8, CAP>, op: PqOp, s: u32)
     requires room { array_vec_len text.old + LONGEST_PQ_OP ≤ CAP }
@@ -195,6 +201,84 @@ fn add_arguments<const CAP: usize>(text: &mut ArrayVec<u8, CAP>, args: &[u64; 5]
     add_hex(text, args[4]);
 }
 
+/// Which page of the TIMA is accessed for which thread, where, and how many bytes.
+fn add_tima<const CAP: usize>(text: &mut ArrayVec<u8, CAP>, t: u32, page: u8, offset: u16, size: u8)
+    requires { array_vec_len text.old + LONGEST_TIMA ≤ CAP }
+    ensures items { text.new.items ≡ text.old.items ++ tima_text t page offset size }
+    ensures len { array_vec_len text.new ≤ array_vec_len text.old + LONGEST_TIMA }
+{
+    add_page(text, t, page, offset);
+    text.push(b' ');
+    add_short_number(text, size as u32);
+}
+
+/// A load from the TIMA, or a store to it.
+fn add_tima_access<const CAP: usize>(
+    text: &mut ArrayVec<u8, CAP>,
+    t: u32,
+    page: u8,
+    offset: u16,
+    size: u8,
+    access: Access,
+)
+    requires { array_vec_len text.old + LONGEST_TIMA_ACCESS ≤ CAP }
+    ensures items { text.new.items
+        ≡ text.old.items ++ tima_access_text t page offset size access }
+    ensures len { array_vec_len text.new ≤ array_vec_len text.old + LONGEST_TIMA_ACCESS }
+{
+    match access {
+        Access::Load => {
+            add(text, b"tload ");
+            add_tima(text, t, page, offset, size);
+        }
+        Access::Store { value } => {
+            add(text, b"tstore ");
+            add_tima(text, t, page, offset, size);
+            text.push(b' ');
+            add_hex(text, value);
+        }
+    }
+}
+
+/// A take, a move of a context or an access to the TIMA. It stays a call, which leaves more registers to the
+/// operations that come more often.
+#[inline(never)]
+fn add_processor_op<const CAP: usize>(text: &mut ArrayVec<u8, CAP>, op: &Op)
+    requires room { array_vec_len text.old + LONGEST_TIMA_ACCESS ≤ CAP }
+    requires op { IsTrue (is_processor_op op.now) }
+    ensures items { text.new.items ≡ text.old.items ++ op_text op.now }
+    ensures len { array_vec_len text.new ≤ array_vec_len text.old + LONGEST_TIMA_ACCESS }
+{
+    match op {
+        Op::Take { i } => {
+            add(text, b"take ");
+            add_short_number(text, *i);
+        }
+        Op::Connect { v } => {
+            add(text, b"connect ");
+            add_short_number(text, *v);
+        }
+        Op::Restore { v, t } => {
+            add(text, b"restore ");
+            add_short_number(text, *v);
+            text.push(b' ');
+            add_short_number(text, *t);
+        }
+        Op::Save { v } => {
+            add(text, b"save ");
+            add_short_number(text, *v);
+        }
+        Op::Tima {
+            t,
+            page,
+            offset,
+            size,
+            access,
+        } => add_tima_access(text, *t, *page, *offset, *size, *access),
+        _ => unreachable!(),
+    }
+}
+
 /// Appends the text of an operation that is built.
 pub fn add_op<const CAP: usize>(text: &mut ArrayVec<u8, CAP>, op: &Op)
     requires room { array_vec_len text.old + LONGEST_OP ≤ CAP }
@@ -253,6 +337,11 @@ pub fn add_op<const CAP: usize>(text: &mut ArrayVec<u8, CAP>, op: &Op)
             text.push(b' ');
             add_hex(text, *len);
         }
+        Op::Take { .. }
+        | Op::Connect { .. }
+        | Op::Restore { .. }
+        | Op::Save { .. }
+        | Op::Tima { .. } => add_processor_op(text, op),
         _ => unreachable!(),
     }
 }

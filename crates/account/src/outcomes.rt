@@ -1,13 +1,15 @@
 //! The texts of outcomes.
 
-ghost use Rattle.std.specs.Prelude.{◌≡◌, ◌+◌, ◌<◌, ◌≤◌, ◌++◌};
+ghost use Rattle.std.specs.Prelude.{◌≡◌, ◌+◌, ◌<◌, ◌≤◌, ◌++◌, length};
 ghost use Rattle.arrayvec.specs.ArrayVec.{array_vec_len};
-ghost use Rattle.account.specs.text.Outcomes.{pairs_text, forward_text, outcome_text, wrote_text, next_text, pass_text, routed_text, reply_text};
+ghost use Rattle.account.specs.text.Outcomes.{pairs_text, forward_text, outcome_text, wrote_text, next_text, pass_text, routed_text, reply_text, phase_text, reason_text, presented_text, presentation_text};
 ghost use Rattle.xv_model.specs.account.Outcomes.{IsWellFormed};
 
 use crate::numbers::{add, add_hex, add_number, add_pair, add_short_number, add_signed};
 use arrayvec::ArrayVec;
-use xv_model::outcomes::{EndRun, HReply, Outcome, Routed, Then, Wrote};
+use xv_model::outcomes::{
+    EndRun, HReply, MoveRefused, Outcome, Phase, Presented, Routed, Then, Wrote,
+};
 
 /// The room that the text of an outcome wants, in bytes.
 pub const LONGEST_OUTCOME: usize = 89;
@@ -29,6 +31,18 @@ const LONGEST_PASS: usize = 68;
 
 /// The room that a reply without outputs wants, in bytes.
 const LONGEST_REPLY: usize = 26;
+
+/// The room that the phase of a processor wants, in bytes.
+pub const LONGEST_PHASE: usize = 19;
+
+/// The room that the reason of a refusal wants, in bytes.
+const LONGEST_REASON: usize = 32;
+
+/// The room that what became of a presentation wants, in bytes.
+const LONGEST_PRESENTED: usize = 12;
+
+/// The room that a presentation wants, in bytes.
+const LONGEST_PRESENTATION: usize = 51;
 
 /// A pair before and after.
 fn add_pairs<const CAP: usize>(text: &mut ArrayVec<u8, CAP>, old: u8, new: u8)
@@ -128,6 +142,96 @@ fn add_reply<const CAP: usize>(text: &mut ArrayVec<u8, CAP>, reply: &HReply)
     add_signed(text, reply.code);
 }
 
+/// Appends where a processor's context is.
+pub fn add_phase<const CAP: usize>(text: &mut ArrayVec<u8, CAP>, phase: Phase)
+    requires { array_vec_len text.old + LONGEST_PHASE ≤ CAP }
+    ensures items { text.new.items ≡ text.old.items ++ phase_text phase }
+    ensures len { array_vec_len text.new ≤ array_vec_len text.old + LONGEST_PHASE }
+{
+    match phase {
+        Phase::Saved => add(text, b"saved"),
+        Phase::Restored { t } => {
+            add(text, b"restored ");
+            add_short_number(text, t);
+        }
+        Phase::On { t } => {
+            add(text, b"on ");
+            add_short_number(text, t);
+        }
+        Phase::Pulled { t } => {
+            add(text, b"pulled ");
+            add_short_number(text, t);
+        }
+    }
+}
+
+/// A word with its space, and where a processor's context is.
+fn add_word_and_phase<const CAP: usize>(text: &mut ArrayVec<u8, CAP>, word: &[u8], phase: Phase)
+    requires room { array_vec_len text.old + LONGEST_REASON ≤ CAP }
+    requires word { length word.now + LONGEST_PHASE ≤ LONGEST_REASON }
+    ensures items { text.new.items ≡ text.old.items ++ (word.now ++ phase_text phase) }
+    ensures len { array_vec_len text.new ≤ array_vec_len text.old + LONGEST_REASON }
+{
+    add(text, word);
+    add_phase(text, phase);
+}
+
+/// Why a move of a context is refused.
+fn add_reason<const CAP: usize>(text: &mut ArrayVec<u8, CAP>, reason: MoveRefused)
+    requires { array_vec_len text.old + LONGEST_REASON ≤ CAP }
+    ensures items { text.new.items ≡ text.old.items ++ reason_text reason }
+    ensures len { array_vec_len text.new ≤ array_vec_len text.old + LONGEST_REASON }
+{
+    match reason {
+        MoveRefused::NotValid => add(text, b"not-valid"),
+        MoveRefused::VpBusy { phase } => add_word_and_phase(text, b"vp-busy ", phase),
+        MoveRefused::RingBusy { vp } => {
+            add(text, b"ring-busy ");
+            add_short_number(text, vp);
+        }
+        MoveRefused::NotPulled { phase } => add_word_and_phase(text, b"not-pulled ", phase),
+        MoveRefused::NotRestored { phase } => add_word_and_phase(text, b"not-restored ", phase),
+        MoveRefused::NoContext => add(text, b"no-context"),
+    }
+}
+
+fn add_presented<const CAP: usize>(text: &mut ArrayVec<u8, CAP>, presented: Presented)
+    requires { array_vec_len text.old + LONGEST_PRESENTED ≤ CAP }
+    ensures items { text.new.items ≡ text.old.items ++ presented_text presented }
+    ensures len { array_vec_len text.new ≤ array_vec_len text.old + LONGEST_PRESENTED }
+{
+    match presented {
+        Presented::Found => add(text, b"found"),
+        Presented::Backlogged => add(text, b"backlogged"),
+        Presented::Lost => add(text, b"lost"),
+        Presented::NoProcessor => add(text, b"no-processor"),
+    }
+}
+
+/// The presentation of a priority to a processor.
+fn add_presentation<const CAP: usize>(
+    text: &mut ArrayVec<u8, CAP>,
+    v: u32,
+    priority: u8,
+    presented: Presented,
+    escalates: bool,
+)
+    requires { array_vec_len text.old + LONGEST_PRESENTATION ≤ CAP }
+    ensures items { text.new.items
+        ≡ text.old.items ++ presentation_text v priority presented escalates }
+    ensures len { array_vec_len text.new ≤ array_vec_len text.old + LONGEST_PRESENTATION }
+{
+    add(text, b"present ");
+    add_short_number(text, v);
+    text.push(b' ');
+    add_short_number(text, priority as u32);
+    text.push(b' ');
+    add_presented(text, presented);
+    if escalates {
+        add(text, b" escalate");
+    }
+}
+
 /// Appends the text of an outcome; one of no operation that is built has none.
 pub fn add_outcome<const CAP: usize>(text: &mut ArrayVec<u8, CAP>, outcome: &Outcome)
     requires room { array_vec_len text.old + LONGEST_OUTCOME ≤ CAP }
@@ -165,6 +269,27 @@ pub fn add_outcome<const CAP: usize>(text: &mut ArrayVec<u8, CAP>, outcome: &Out
             add_hex(text, *word as u64);
         }
         Outcome::BadRange => add(text, b"bad-range"),
+        Outcome::NoMessage => add(text, b"no-message"),
+        Outcome::Present {
+            v,
+            p,
+            presented,
+            escalates,
+        } => add_presentation(text, *v, *p, *presented, *escalates),
+        Outcome::Refused { why } => {
+            add(text, b"refused ");
+            add_reason(text, *why);
+        }
+        Outcome::Value { value } => {
+            add(text, b"value ");
+            add_hex(text, *value);
+        }
+        Outcome::Stored => add(text, b"stored"),
+        Outcome::BadAccess => add(text, b"bad-access"),
+        Outcome::Code { code } => {
+            add(text, b"code ");
+            add_signed(text, *code as i64);
+        }
         _ => {}
     }
 }

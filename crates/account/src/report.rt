@@ -2,18 +2,16 @@
 
 ghost use Rattle.std.specs.Prelude.{◌≡◌, ◌+◌, ◌<◌, ◌≤◌, ◌++◌};
 ghost use Rattle.arrayvec.specs.ArrayVec.{array_vec_len};
-ghost use Rattle.account.specs.text.Report.{end_line, is_unused_source, source_line, queue_line, phase_text, processor_line, ring_line, flight_line, notices_line, done_line};
+ghost use Rattle.account.specs.text.Report.{end_line, is_unused_source, source_line, queue_line, processor_line, ring_line, flight_line, notices_line, done_line};
 
 use crate::LONGEST_REPORT_LINE;
 use crate::numbers::{add, add_hex, add_number, add_number_line, add_pair, add_short_number};
 use crate::operations::add_flags;
+use crate::outcomes::add_phase;
 use arrayvec::ArrayVec;
 use bitflags::Flags;
 use xv_model::operations::EndFlags;
 use xv_model::outcomes::Phase;
-
-/// The room that the phase of a processor wants, in bytes.
-const LONGEST_PHASE: usize = 19;
 
 /// Appends the first line: how many entries there are.
 pub fn add_end<const CAP: usize>(text: &mut ArrayVec<u8, CAP>, entries: u64)
@@ -96,28 +94,6 @@ pub fn add_queue<const CAP: usize>(
     text.push(b' ');
     add_pair(text, ese);
     text.push(b'\n');
-}
-
-fn add_phase<const CAP: usize>(text: &mut ArrayVec<u8, CAP>, phase: Phase)
-    requires { array_vec_len text.old + LONGEST_PHASE ≤ CAP }
-    ensures items { text.new.items ≡ text.old.items ++ phase_text phase }
-    ensures len { array_vec_len text.new ≤ array_vec_len text.old + LONGEST_PHASE }
-{
-    match phase {
-        Phase::Saved => add(text, b"saved"),
-        Phase::Restored { t } => {
-            add(text, b"restored ");
-            add_short_number(text, t);
-        }
-        Phase::On { t } => {
-            add(text, b"on ");
-            add_short_number(text, t);
-        }
-        Phase::Pulled { t } => {
-            add(text, b"pulled ");
-            add_short_number(text, t);
-        }
-    }
 }
 
 /// Appends the line of a processor that is connected. `cppr` and `ipb` are those that are saved, 0 where the

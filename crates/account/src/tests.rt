@@ -5,6 +5,8 @@ ghost use Rattle.xv_model.specs.board.Boards.{AreBelow, IsBoard};
 ghost use Rattle.account.specs.text.Operations.{is_built};
 ghost use Rattle.xv_model.specs.account.Outcomes.{IsWellFormed};
 
+mod processors;
+
 use crate::entry::add_entry;
 use crate::header::add_header;
 use crate::refusal::{add_refusal, add_too_long};
@@ -15,19 +17,18 @@ use arrayvec::ArrayVec;
 use bitflags::Flags;
 use xv_base::Limits;
 use xv_model::board::{Board, Span, Spans};
-use xv_model::entries::Entry;
 use xv_model::operations::{EndConfig, EndFlags, Op, PqOp};
 use xv_model::outcomes::{EndRun, HReply, Outcome, Phase, Routed, Then, Wrote};
 
 type Text = ArrayVec<u8, 4096>;
 
 /// Whether an entry is printed so.
-fn prints(index: u64, actor: u32, op: Op, outcome: Outcome, line: &[u8]) -> bool
+pub fn prints(index: u64, actor: u32, op: Op, outcome: Outcome, line: &[u8]) -> bool
     requires op { IsTrue (is_built op) }
     requires outcome { IsWellFormed outcome }
 {
     let mut text = Text::new();
-    add_entry(&mut text, index, &Entry { actor, op, outcome });
+    add_entry(&mut text, index, actor, &op, &outcome);
     text.as_slice() == line
 }
 
@@ -596,7 +597,10 @@ fn reports(rt: HostRuntime) {
     add_queue(&mut text, 9, EndFlags::from_bits_retain(5), 4, 3, 2, 0);
     add_processor(&mut text, 63, Phase::Saved, 0, 0, 0x80);
     add_processor(&mut text, 2, Phase::On { t: 31 }, 0xff, 0x10, 0);
+    add_processor(&mut text, 1, Phase::Restored { t: 0 }, 0, 0, 0xc0);
+    add_processor(&mut text, 0, Phase::Pulled { t: 1 }, 0, 0, 0);
     add_ring(&mut text, 31, 0, 0xff, 0x8, 0xff, 0x8000043f);
+    add_ring(&mut text, 0, 0x80, 7, 0x10, 3, 0x80000400);
     add_flight(&mut text, 4096);
     add_notices(&mut text, 0);
     add_done(&mut text);
@@ -607,8 +611,12 @@ fn reports(rt: HostRuntime) {
         b"processor 63 saved 0x0 0x0 0x80\nprocessor 2 on 31 0xff 0x10 0x0\n",
     );
     let _fits = expected.try_extend_from_slice(
-        b"ring 31 0x0 0xff 0x8 0xff 0x8000043f\nflight 4096\nnotices 0\ndone\n",
+        b"processor 1 restored 0 0x0 0x0 0xc0\nprocessor 0 pulled 1 0x0 0x0 0x0\n",
     );
+    let _fits = expected.try_extend_from_slice(
+        b"ring 31 0x0 0xff 0x8 0xff 0x8000043f\nring 0 0x80 0x7 0x10 0x3 0x80000400\n",
+    );
+    let _fits = expected.try_extend_from_slice(b"flight 4096\nnotices 0\ndone\n");
     assert!(rt; text.as_slice() == expected.as_slice());
 }
 

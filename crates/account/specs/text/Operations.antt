@@ -2,6 +2,8 @@
 use Rattle.std.specs.Prelude.{ℕ, ◌==◌, Bool, true, false, if◌then◌else◌, List, [], ◌++◌, slice_index_or, codes, decimal}
 use Rattle.xv_model.specs.declared.operations.PqOp.{PqOp}
 use Rattle.xv_model.specs.declared.operations.PqOp.TheVariants.{Trigger, Eoi, Get, Set, Raise, Lower, Init}
+use Rattle.xv_model.specs.declared.operations.Access.{Access}
+use Rattle.xv_model.specs.declared.operations.Access.TheVariants.{Load, Store}
 use Rattle.xv_model.specs.declared.operations.Op.{Op}
 use Rattle.xv_model.specs.declared.operations.Op.TheVariants as op
 use Rattle.xv_model.specs.declared.operations.EndConfig.{EndConfig}
@@ -63,6 +65,15 @@ arguments_text args =
     ++ hex (slice_index_or args 2 0) ++ codes " " ++ hex (slice_index_or args 3 0) ++ codes " "
     ++ hex (slice_index_or args 4 0)
 
+-- which page of the TIMA is accessed for which thread, at which offset, and how many bytes
+abbrev pub tima_text : ℕ → ℕ → ℕ → ℕ → List ℕ
+tima_text t page offset size = page_text t page offset ++ codes " " ++ decimal size
+
+-- a load from the TIMA, or a store to it
+abbrev pub tima_access_text : ℕ → ℕ → ℕ → ℕ → Access → List ℕ
+tima_access_text t page offset size Load = codes "tload " ++ tima_text t page offset size
+tima_access_text t page offset size (Store value) = codes "tstore " ++ tima_text t page offset size ++ codes " " ++ hex value
+
 -- an operation; one that isn't built has no text
 abbrev pub op_text : Op → List ℕ
 op_text (op.Pq s o) = pq_op_text o s
@@ -74,7 +85,21 @@ op_text (op.Hcall number args) = codes "hcall " ++ hex number ++ codes " " ++ ar
 op_text (op.Read e) = codes "read " ++ decimal e
 op_text (op.Peek addr) = codes "peek " ++ hex addr
 op_text (op.Zero addr len) = codes "zero " ++ hex addr ++ codes " " ++ hex len
+op_text (op.Take i) = codes "take " ++ decimal i
+op_text (op.Connect v) = codes "connect " ++ decimal v
+op_text (op.Restore v t) = codes "restore " ++ decimal v ++ codes " " ++ decimal t
+op_text (op.Save v) = codes "save " ++ decimal v
+op_text (op.Tima t page offset size access) = tima_access_text t page offset size access
 op_text _ = []
+
+-- whether an operation is on processors or rings: a take, a move of a context or an access to the TIMA
+abbrev pub is_processor_op : Op → Bool
+is_processor_op (op.Take i) = true
+is_processor_op (op.Connect v) = true
+is_processor_op (op.Restore v t) = true
+is_processor_op (op.Save v) = true
+is_processor_op (op.Tima t page offset size access) = true
+is_processor_op _ = false
 
 -- whether an operation is built, whatever its board, and a pair in it is one
 abbrev pub is_built : Op → Bool
@@ -87,4 +112,9 @@ is_built (op.Hcall number args) = true
 is_built (op.Read e) = true
 is_built (op.Peek addr) = true
 is_built (op.Zero addr len) = true
+is_built (op.Take i) = true
+is_built (op.Connect v) = true
+is_built (op.Restore v t) = true
+is_built (op.Save v) = true
+is_built (op.Tima t page offset size access) = true
 is_built _ = false

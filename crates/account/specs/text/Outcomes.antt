@@ -1,5 +1,5 @@
 -- The texts of outcomes.
-use Rattle.std.specs.Prelude.{ℕ, ◌==◌, if◌then◌else◌, List, [], ◌∷◌, ◌++◌, take, codes, decimal, Option, Some, None}
+use Rattle.std.specs.Prelude.{ℕ, ◌==◌, Bool, if◌then◌else◌, List, [], ◌∷◌, ◌++◌, take, codes, decimal, Option, Some, None}
 use Rattle.std.specs.Fmt.{signed_decimal}
 use Rattle.xv_model.specs.declared.outcomes.Wrote.{Wrote}
 use Rattle.xv_model.specs.declared.outcomes.Then.{Then}
@@ -9,6 +9,12 @@ use Rattle.xv_model.specs.declared.outcomes.EndRun.TheVariants.{NoEnd, Ran}
 use Rattle.xv_model.specs.declared.outcomes.Routed.{Routed}
 use Rattle.xv_model.specs.declared.outcomes.Routed.TheVariants.{NoSource, Masked, Run}
 use Rattle.xv_model.specs.declared.outcomes.HReply.{HReply}
+use Rattle.xv_model.specs.declared.outcomes.Phase.{Phase}
+use Rattle.xv_model.specs.declared.outcomes.Phase.TheVariants.{Saved, Restored, On, Pulled}
+use Rattle.xv_model.specs.declared.outcomes.MoveRefused.{MoveRefused}
+use Rattle.xv_model.specs.declared.outcomes.MoveRefused.TheVariants.{NotValid, VpBusy, RingBusy, NotPulled, NotRestored, NoContext}
+use Rattle.xv_model.specs.declared.outcomes.Presented.{Presented}
+use Rattle.xv_model.specs.declared.outcomes.Presented.TheVariants.{Found, Backlogged, Lost, NoProcessor}
 use Rattle.xv_model.specs.declared.outcomes.Outcome.{Outcome}
 use Rattle.xv_model.specs.declared.outcomes.Outcome.TheVariants as out
 use Rattle.account.specs.text.Numbers.{pair_text, hex}
@@ -53,6 +59,35 @@ outputs_text (n ∷ ns) = codes " " ++ hex n ++ outputs_text ns
 abbrev pub reply_text : HReply → List ℕ
 reply_text reply = codes "code " ++ signed_decimal reply.code ++ outputs_text (take reply.outs reply.out)
 
+-- where a processor's context is
+abbrev pub phase_text : Phase → List ℕ
+phase_text Saved = codes "saved"
+phase_text (Restored t) = codes "restored " ++ decimal t
+phase_text (On t) = codes "on " ++ decimal t
+phase_text (Pulled t) = codes "pulled " ++ decimal t
+
+-- why a move of a context is refused
+abbrev pub reason_text : MoveRefused → List ℕ
+reason_text NotValid = codes "not-valid"
+reason_text (VpBusy phase) = codes "vp-busy " ++ phase_text phase
+reason_text (RingBusy v) = codes "ring-busy " ++ decimal v
+reason_text (NotPulled phase) = codes "not-pulled " ++ phase_text phase
+reason_text (NotRestored phase) = codes "not-restored " ++ phase_text phase
+reason_text NoContext = codes "no-context"
+
+-- what became of a presentation
+abbrev pub presented_text : Presented → List ℕ
+presented_text Found = codes "found"
+presented_text Backlogged = codes "backlogged"
+presented_text Lost = codes "lost"
+presented_text NoProcessor = codes "no-processor"
+
+-- the presentation of a priority to processor v: what became of it, and whether it escalates
+abbrev pub presentation_text : ℕ → ℕ → Presented → Bool → List ℕ
+presentation_text v priority presented escalates =
+    codes "present " ++ decimal v ++ codes " " ++ decimal priority ++ codes " " ++ presented_text presented
+    ++ (if escalates then codes " escalate" else [])
+
 -- an outcome; one of no operation that is built has no text
 abbrev pub outcome_text : Outcome → List ℕ
 outcome_text (out.Pq old new forward) = pairs_text old new ++ forward_text forward
@@ -71,4 +106,11 @@ outcome_text out.Empty = codes "empty"
 outcome_text out.NoQueue = codes "no-queue"
 outcome_text (out.Cell word) = codes "word " ++ hex word
 outcome_text out.BadRange = codes "bad-range"
+outcome_text out.NoMessage = codes "no-message"
+outcome_text (out.Present v priority presented escalates) = presentation_text v priority presented escalates
+outcome_text (out.Refused reason) = codes "refused " ++ reason_text reason
+outcome_text (out.Value value) = codes "value " ++ hex value
+outcome_text out.Stored = codes "stored"
+outcome_text out.BadAccess = codes "bad-access"
+outcome_text (out.Code code) = codes "code " ++ signed_decimal code
 outcome_text _ = []

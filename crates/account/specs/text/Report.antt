@@ -1,10 +1,10 @@
 -- The lines of a report.
 use Rattle.std.specs.Prelude.{ℕ, ◌==◌, ◌&&◌, Bool, not, if◌then◌else◌, List, [], ◌++◌, codes, decimal}
 use Rattle.xv_model.specs.declared.outcomes.Phase.{Phase}
-use Rattle.xv_model.specs.declared.outcomes.Phase.TheVariants.{Saved, Restored, On, Pulled}
 use Rattle.xv_model.specs.end.Flags.{has_bit}
 use Rattle.account.specs.text.Numbers.{pair_text, hex, number_line}
 use Rattle.account.specs.text.Operations.{flags_text}
+use Rattle.account.specs.text.Outcomes.{phase_text}
 
 -- how many entries there are
 abbrev pub end_line : ℕ → List ℕ
@@ -28,13 +28,6 @@ queue_line e flags written taken esn ese =
     if not (has_bit flags 1) then []
     else codes "queue " ++ decimal e ++ codes " " ++ flags_text flags ++ codes " " ++ decimal written
     ++ codes " " ++ decimal taken ++ codes " " ++ pair_text esn ++ codes " " ++ pair_text ese ++ codes "\n"
-
--- where a processor's context is
-abbrev pub phase_text : Phase → List ℕ
-phase_text Saved = codes "saved"
-phase_text (Restored t) = codes "restored " ++ decimal t
-phase_text (On t) = codes "on " ++ decimal t
-phase_text (Pulled t) = codes "pulled " ++ decimal t
 
 -- processor v: where its context is, its saved CPPR and IPB, and its backlog
 abbrev pub processor_line : ℕ → Phase → ℕ → ℕ → ℕ → List ℕ
