@@ -44,11 +44,13 @@ AreWorkIn script = AreWorkOn (board_in script) (work_in script)
 no_work : (turn : Turn) (b : Board) (actor : ℕ) (w : AWork) → IsHeaderSaid turn b (say.Work actor w) → ⊥
 no_work turns.Level b actor w f = f
 no_work turns.Unclaimed b actor w f = f
+no_work turns.Unconnected b actor w f = f
 no_work _ b actor w f = f
 
 no_end : (turn : Turn) (b : Board) → IsHeaderSaid turn b say.End → ⊥
 no_end turns.Level b f = f
 no_end turns.Unclaimed b f = f
+no_end turns.Unconnected b f = f
 no_end _ b f = f
 
 none_is : (b : Board) (work : List WorkLine) → work ≡ [] → AreWork b work

@@ -62,8 +62,12 @@ header_stays turns.Esb b (said.Pages two store) s f = search rules
 header_stays turns.Level b (said.Level span) s f = search (rules, below_with)
 header_stays turns.Level b (said.Unclaimed span) s f = search (rules, below_with)
 header_stays turns.Unclaimed b (said.Unclaimed span) s f = search (rules, below_with)
+header_stays turns.Level b (said.Unconnected span) s f = search (rules, below_with)
+header_stays turns.Unclaimed b (said.Unconnected span) s f = search (rules, below_with)
+header_stays turns.Unconnected b (said.Unconnected span) s f = search (rules, below_with)
 header_stays turns.Level b said.Go s f = record { is_board = s.is_board; ranges = tt }
 header_stays turns.Unclaimed b said.Go s f = record { is_board = s.is_board; ranges = tt }
+header_stays turns.Unconnected b said.Go s f = record { is_board = s.is_board; ranges = tt }
 header_stays _ b _ s f = absurd f
 
 -- a line of the header that says nothing
@@ -76,6 +80,7 @@ nothing turns.Actors b s = s
 nothing turns.Esb b s = s
 nothing turns.Level b s = s
 nothing turns.Unclaimed b s = s
+nothing turns.Unconnected b s = s
 nothing turns.Board b s = s
 
 -- the board after a line is one

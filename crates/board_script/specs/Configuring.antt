@@ -10,7 +10,7 @@ use Rattle.xv_model.specs.account.Start.{no_config}
 use Rattle.xv_model.specs.board.Validity.{valid}
 use Rattle.board_script.specs.declared.faults.Misread.{Misread}
 use Rattle.board_script.specs.declared.work.Work.{Work}
-use Rattle.board_script.specs.declared.work.Work.TheVariants.{Once}
+use Rattle.board_script.specs.Work.{once}
 use Rattle.board_script.specs.Words.{misread_at, then_read, then_at, at_end}
 use Rattle.board_script.specs.Numbers.{number_at, bounded_at, word32_at, end_number_at}
 use Rattle.board_script.specs.Flags.{flags_at, of_bits}
@@ -40,7 +40,7 @@ config_of b flags rest =
 
 -- an operation, where a board has it; else it is refused there
 abbrev pub if_valid : Board → Misread → Op → Result Work Misread
-if_valid b at o = if valid b o then Ok (Once o) else Err at
+if_valid b at o = if valid b o then Ok (once o) else Err at
 
 -- the work that configures an END; where no board can have the configuration it is refused at its name
 abbrev pub endset_of : Board → Misread → List ℕ → Result Work Misread
@@ -64,7 +64,7 @@ args_of rest = then_at number_at rest (λ a rest. then_at number_at rest (λ b r
 -- a call of this number; where it isn't H_INT_SET_SOURCE_CONFIG, the only one that is built, it is refused there
 abbrev pub call_of : Misread → ℕ → List ℕ → Result Work Misread
 call_of at number rest =
-    if number == H_INT_SET_SOURCE_CONFIG then then_read (args_of rest) (λ args. Ok (Once (op.Hcall number args)))
+    if number == H_INT_SET_SOURCE_CONFIG then then_read (args_of rest) (λ args. Ok (once (op.Hcall number args)))
     else Err at
 
 -- a hypercall

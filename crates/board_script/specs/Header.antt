@@ -30,6 +30,7 @@ count_of turns.Actors = Some (record { name = codes "actors"; low = 1; most = mo
 count_of turns.Esb = None
 count_of turns.Level = None
 count_of turns.Unclaimed = None
+count_of turns.Unconnected = None
 
 -- a line of a name and a number from low to most
 abbrev pub number_line_of : List ℕ → ℕ → ℕ → List ℕ → Result Said Misread
@@ -44,33 +45,43 @@ pages_line_of rest =
     then_at (bounded_at 1 3) rest (λ pages rest.
     then_at (bounded_at 0 2) rest (λ eoi rest. at_end rest (said.Pages (pages == 2) (eoi == 1)))))
 
--- a range of sources, the last two words of a line
-abbrev pub range_of : Board → List ℕ → Result Span Misread
-range_of b rest =
-    then_at (bounded_at 0 b.limits.sources) rest (λ first rest.
-    then_at (bounded_at first b.limits.sources) rest (λ last rest.
+-- a range of numbers below a limit, the last two words of a line
+abbrev pub range_of : ℕ → List ℕ → Result Span Misread
+range_of limit rest =
+    then_at (bounded_at 0 limit) rest (λ first rest.
+    then_at (bounded_at first limit) rest (λ last rest.
     at_end rest (record { first = first; last = last })))
 
--- a line of a range of some kind, by what stands after its name
-abbrev pub range_line_of : Board → (Span → Said) → List ℕ → Result Said Misread
-range_line_of b make rest = then_read (range_of b rest) (λ span. Ok (make span))
+-- a line of a range of some kind below a limit, by what stands after its name
+abbrev pub range_line_of : ℕ → (Span → Said) → List ℕ → Result Said Misread
+range_line_of limit make rest = then_read (range_of limit rest) (λ span. Ok (make span))
 
 -- whether there is room for one more range of a kind
 abbrev pub has_room : Spans → Bool
 has_room spans = nat_lt spans.count most_ranges
 
--- whether a range of level sources may come: before those of unclaimed sources, and where there is room for it
+-- whether a range of level sources may come: before those of other kinds, and where there is room for it
 abbrev pub takes_level : Turn → Board → Bool
 takes_level turns.Level b = has_room b.level
 takes_level _ b = false
 
+-- whether a range of unclaimed sources may come: before those of processors, and where there is room for it
+abbrev pub takes_unclaimed : Turn → Board → Bool
+takes_unclaimed turns.Level b = has_room b.unclaimed
+takes_unclaimed turns.Unclaimed b = has_room b.unclaimed
+takes_unclaimed _ b = false
+
 -- a line at the end of the header: a range, where one of its kind may come, or the end
 abbrev pub last_line_of : Turn → Board → List ℕ → Result Said Misread
 last_line_of turn b rest =
-    if is_word (codes "level") (word_of rest) && takes_level turn b then range_line_of b said.Level (rest_of rest)
-    else (if is_word (codes "unclaimed") (word_of rest) && has_room b.unclaimed then
-    range_line_of b said.Unclaimed (rest_of rest)
-    else (if is_word (codes "go") (word_of rest) then at_end (rest_of rest) said.Go else Err (misread_at rest)))
+    if is_word (codes "level") (word_of rest) && takes_level turn b then
+    range_line_of b.limits.sources said.Level (rest_of rest)
+    else (if is_word (codes "unclaimed") (word_of rest) && takes_unclaimed turn b then
+    range_line_of b.limits.sources said.Unclaimed (rest_of rest)
+    else (if is_word (codes "go") (word_of rest) then at_end (rest_of rest) said.Go
+    else (if is_word (codes "unconnected") (word_of rest) && has_room b.unconnected then
+    range_line_of b.limits.processors said.Unconnected (rest_of rest)
+    else Err (misread_at rest))))
 
 -- a line of the header at a turn, by what that counts
 abbrev pub header_by : Option Count → Turn → Board → List ℕ → Result Said Misread

@@ -8,6 +8,7 @@ pub mod Work
 pub mod Sources
 pub mod Pages
 pub mod Memory
+pub mod Processors
 pub mod Configuring
 pub mod Working
 pub mod Header

@@ -61,6 +61,7 @@ line_by b (said.Number n) = line.Header
 line_by b (said.Pages two store) = line.Header
 line_by b (said.Level span) = line.Header
 line_by b (said.Unclaimed span) = line.Header
+line_by b (said.Unconnected span) = line.Header
 line_by b said.Go = line.Go b
 line_by b said.End = line.End
 line_by b (said.Work actor work) = line.Work actor work
@@ -75,21 +76,28 @@ abbrev pub IsPages : Said → Type 0
 IsPages (said.Pages two_pages store_eoi) = Unit {0}
 IsPages _ = ⊥
 
--- one more range of sources beside these of its kind: there is room for it, and it is one of the board's sources
-pub record IsRange (b : Board) (spans : Spans) (span : Span) : Type 0 where
+-- one more range beside these of its kind: there is room for it, and its numbers are below a limit
+pub record IsRange (limit : ℕ) (spans : Spans) (span : Span) : Type 0 where
   pub room : spans.count < most_ranges
   pub ordered : span.first ≤ span.last
-  pub below : span.last < b.limits.sources
+  pub below : span.last < limit
 
--- a range of level sources, before those of unclaimed sources
+-- a range of level sources, before those of other kinds
 abbrev pub IsLevelAt : Turn → Board → Span → Type 0
-IsLevelAt turns.Level b span = IsRange b b.level span
+IsLevelAt turns.Level b span = IsRange b.limits.sources b.level span
 IsLevelAt _ b span = ⊥
+
+-- a range of unclaimed sources, before those of processors
+abbrev pub IsUnclaimedAt : Turn → Board → Span → Type 0
+IsUnclaimedAt turns.Level b span = IsRange b.limits.sources b.unclaimed span
+IsUnclaimedAt turns.Unclaimed b span = IsRange b.limits.sources b.unclaimed span
+IsUnclaimedAt _ b span = ⊥
 
 -- a range of a kind that may come at a turn, or the end of the header
 abbrev pub IsLastSaid : Turn → Board → Said → Type 0
 IsLastSaid turn b (said.Level span) = IsLevelAt turn b span
-IsLastSaid turn b (said.Unclaimed span) = IsRange b b.unclaimed span
+IsLastSaid turn b (said.Unclaimed span) = IsUnclaimedAt turn b span
+IsLastSaid turn b (said.Unconnected span) = IsRange b.limits.processors b.unconnected span
 IsLastSaid turn b said.Go = Unit {0}
 IsLastSaid turn b _ = ⊥
 

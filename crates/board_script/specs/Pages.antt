@@ -7,7 +7,7 @@ use Rattle.xv_model.specs.declared.pages.TheConstants.{END_PAGES}
 use Rattle.xv_model.specs.board.Boards.{source_pages}
 use Rattle.board_script.specs.declared.faults.Misread.{Misread}
 use Rattle.board_script.specs.declared.work.Work.{Work}
-use Rattle.board_script.specs.declared.work.Work.TheVariants.{Once}
+use Rattle.board_script.specs.Work.{once}
 use Rattle.board_script.specs.Words.{then_read, then_at, at_end}
 use Rattle.board_script.specs.Numbers.{bounded_at, end_number_at}
 use Rattle.board_script.specs.Sources.{source_at}
@@ -26,10 +26,10 @@ place_of pages rest =
 abbrev pub source_page_line_of : Board → Bool → List ℕ → Result Work Misread
 source_page_line_of b store rest =
     then_at (source_at b) rest (λ s rest.
-    then_read (place_of (source_pages b) rest) (λ at. Ok (Once (op.Esb s at.0 at.1 store))))
+    then_read (place_of (source_pages b) rest) (λ at. Ok (once (op.Esb s at.0 at.1 store))))
 
 -- a load or a store on a page of an END
 abbrev pub end_page_line_of : Board → Bool → List ℕ → Result Work Misread
 end_page_line_of b store rest =
     then_at (end_number_at b.limits.processors) rest (λ e rest.
-    then_read (place_of END_PAGES rest) (λ at. Ok (Once (op.EndEsb e at.0 at.1 store))))
+    then_read (place_of END_PAGES rest) (λ at. Ok (once (op.EndEsb e at.0 at.1 store))))

@@ -35,6 +35,7 @@ next_turn turns.Actors = turns.Esb
 next_turn turns.Esb = turns.Level
 next_turn turns.Level = turns.Level
 next_turn turns.Unclaimed = turns.Unclaimed
+next_turn turns.Unconnected = turns.Unconnected
 
 -- the script isn't over
 abbrev pub IsOpen : Stage → Type 0
@@ -45,6 +46,7 @@ IsOpen stage = Unit {0}
 abbrev pub header_after : Turn → Said → Stage
 header_after turn said.Nothing = Header turn
 header_after turn (said.Unclaimed span) = Header turns.Unclaimed
+header_after turn (said.Unconnected span) = Header turns.Unconnected
 header_after turn said.Go = Work
 header_after turn _ = Header (next_turn turn)
 
@@ -69,6 +71,9 @@ board_with turns.Esb (said.Pages two store) b = record b { two_pages = two; stor
 board_with turns.Level (said.Level span) b = record b { level = spans_with span b.level }
 board_with turns.Level (said.Unclaimed span) b = record b { unclaimed = spans_with span b.unclaimed }
 board_with turns.Unclaimed (said.Unclaimed span) b = record b { unclaimed = spans_with span b.unclaimed }
+board_with turns.Level (said.Unconnected span) b = record b { unconnected = spans_with span b.unconnected }
+board_with turns.Unclaimed (said.Unconnected span) b = record b { unconnected = spans_with span b.unconnected }
+board_with turns.Unconnected (said.Unconnected span) b = record b { unconnected = spans_with span b.unconnected }
 board_with _ _ b = b
 
 -- the board after a line: the lines of the header make it
@@ -76,8 +81,9 @@ abbrev pub board_after : Stage → Said → Board → Board
 board_after (Header turn) it b = board_with turn it b
 board_after _ it b = b
 
--- the board has the ranges that lines before this turn can give: none before the last lines, and none of processors yet
+-- the board has the ranges that lines before this turn can give: none before the last lines, and none of a later kind
 abbrev pub HasRangesAt : Turn → Board → Type 0
+HasRangesAt turns.Unconnected b = Unit {0}
 HasRangesAt turns.Unclaimed b = b.unconnected.count ≡ 0
 HasRangesAt turns.Level b = (b.unclaimed.count ≡ 0) × (b.unconnected.count ≡ 0)
 HasRangesAt _ b = (b.level.count ≡ 0) × (b.unclaimed.count ≡ 0) × (b.unconnected.count ≡ 0)

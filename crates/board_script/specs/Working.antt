@@ -13,8 +13,18 @@ use Rattle.board_script.specs.Sources.{access_line_of, set_line_of, route_line_o
 use Rattle.board_script.specs.Pages.{source_page_line_of, end_page_line_of}
 use Rattle.board_script.specs.Memory.{read_line_of, peek_line_of, zero_line_of}
 use Rattle.board_script.specs.Configuring.{endset_of, hcall_of}
+use Rattle.board_script.specs.Processors.{settle_line_of, take_line_of, connect_line_of, restore_line_of, save_line_of, push_line_of, pull_line_of, ack_line_of, regs_line_of, cppr_line_of, inject_line_of}
 
--- the work of a line, by a name that comes less often; an unknown name is refused there
+-- the work of a line that moves the context of a processor, by its name; an unknown name is refused there
+abbrev pub move_steps_by : Board → Misread → List ℕ → List ℕ → Result Work Misread
+move_steps_by b at name rest =
+    if is_word (codes "push") name then push_line_of b rest
+    else (if is_word (codes "pull") name then pull_line_of b rest
+    else (if is_word (codes "connect") name then connect_line_of b rest
+    else (if is_word (codes "restore") name then restore_line_of b rest
+    else (if is_word (codes "save") name then save_line_of b rest else Err at))))
+
+-- the work of a line, by a name that comes less often
 abbrev pub rare_steps_by : Board → Misread → List ℕ → List ℕ → Result Work Misread
 rare_steps_by b at name rest =
     if is_word (codes "raise") name then level_line_of b at Raise rest
@@ -26,7 +36,17 @@ rare_steps_by b at name rest =
     else (if is_word (codes "peek") name then peek_line_of rest
     else (if is_word (codes "zero") name then zero_line_of rest
     else (if is_word (codes "endset") name then endset_of b at rest
-    else (if is_word (codes "hcall") name then hcall_of rest else Err at)))))))))
+    else (if is_word (codes "hcall") name then hcall_of rest else move_steps_by b at name rest)))))))))
+
+-- the work of a line on messages or on the ring of a thread, by its name
+abbrev pub ring_steps_by : Board → Misread → List ℕ → List ℕ → Result Work Misread
+ring_steps_by b at name rest =
+    if is_word (codes "settle") name then settle_line_of rest
+    else (if is_word (codes "ack") name then ack_line_of b rest
+    else (if is_word (codes "cppr") name then cppr_line_of b rest
+    else (if is_word (codes "take") name then take_line_of rest
+    else (if is_word (codes "inject") name then inject_line_of b rest
+    else (if is_word (codes "regs") name then regs_line_of b rest else rare_steps_by b at name rest)))))
 
 -- the work of a line, by the name of its operation and what stands after it
 abbrev pub steps_by : Board → Misread → List ℕ → List ℕ → Result Work Misread
@@ -40,7 +60,7 @@ steps_by b at name rest =
     else (if is_word (codes "set") name then set_line_of b rest
     else (if is_word (codes "get") name then access_line_of b Get rest
     else (if is_word (codes "route") name then route_line_of b rest
-    else (if is_word (codes "read") name then read_line_of b rest else rare_steps_by b at name rest)))))))))
+    else (if is_word (codes "read") name then read_line_of b rest else ring_steps_by b at name rest)))))))))
 
 -- the work of a line, from the name of its operation on
 abbrev pub steps_of : Board → List ℕ → Result Work Misread

@@ -60,7 +60,7 @@ fn checked(board: &Board, here: Misread, op: Op) -> Result<Work, Misread>
     ensures { result ≡ if_valid board.now here op }
 {
     if valid(board, &op) {
-        Ok(Work::Once { op })
+        Ok(Work::once(op))
     } else {
         Err(here)
     }
@@ -111,9 +111,7 @@ fn call(here: Misread, number: u64, words: &mut Words) -> Result<Work, Misread>
         return Err(here);
     }
     let args = args(words)?;
-    Ok(Work::Once {
-        op: Op::Hcall { number, args },
-    })
+    Ok(Work::once(Op::Hcall { number, args }))
 }
 
 /// A hypercall.

@@ -1,7 +1,7 @@
 //! Lines of the header.
 
 ghost use Rattle.std.specs.Prelude.{◌≡◌, ◌<◌};
-ghost use Rattle.board_script.specs.Header.{number_line_of, pages_line_of, range_of, has_room, takes_level, last_line_of, header_of};
+ghost use Rattle.board_script.specs.Header.{number_line_of, pages_line_of, range_of, has_room, takes_level, takes_unclaimed, last_line_of, header_of};
 
 use crate::faults::Misread;
 use crate::lines::Said;
@@ -37,12 +37,12 @@ fn pages_line(words: &mut Words) -> Result<Said, Misread>
     })
 }
 
-/// A range of sources, the last two words of a line.
-fn range(board: &Board, words: &mut Words) -> Result<Span, Misread>
-    ensures { result ≡ range_of board.now words.old }
+/// A range of numbers below a limit, the last two words of a line.
+fn range(limit: u32, words: &mut Words) -> Result<Span, Misread>
+    ensures { result ≡ range_of limit words.old }
 {
-    let first = words.bounded(0, board.limits.sources)?;
-    let last = words.bounded(first, board.limits.sources)?;
+    let first = words.bounded(0, limit)?;
+    let last = words.bounded(first, limit)?;
     words.done()?;
     Ok(Span { first, last })
 }
@@ -54,12 +54,22 @@ fn has_room_for(spans: &Spans) -> bool
     (spans.count as u32) < MOST_RANGES
 }
 
-/// Whether a range of level sources may come: before those of unclaimed sources, and where there is room for it.
+/// Whether a range of level sources may come: before those of other kinds, and where there is room for it.
 fn may_be_level(turn: Turn, board: &Board) -> bool
     ensures { result ≡ takes_level turn board.now }
 {
     match turn {
         Turn::Level => has_room_for(&board.level),
+        _ => false,
+    }
+}
+
+/// Whether a range of unclaimed sources may come: before those of processors, and where there is room for it.
+fn may_be_unclaimed(turn: Turn, board: &Board) -> bool
+    ensures { result ≡ takes_unclaimed turn board.now }
+{
+    match turn {
+        Turn::Level | Turn::Unclaimed => has_room_for(&board.unclaimed),
         _ => false,
     }
 }
@@ -71,16 +81,20 @@ fn last_line(turn: Turn, board: &Board, words: &mut Words) -> Result<Said, Misre
     let here = words.here();
     let name = words.next();
     if same(name, b"level") && may_be_level(turn, board) {
-        let span = range(board, words)?;
+        let span = range(board.limits.sources, words)?;
         return Ok(Said::Level { span });
     }
-    if same(name, b"unclaimed") && has_room_for(&board.unclaimed) {
-        let span = range(board, words)?;
+    if same(name, b"unclaimed") && may_be_unclaimed(turn, board) {
+        let span = range(board.limits.sources, words)?;
         return Ok(Said::Unclaimed { span });
     }
     if same(name, b"go") {
         words.done()?;
         return Ok(Said::Go);
+    }
+    if same(name, b"unconnected") && has_room_for(&board.unconnected) {
+        let span = range(board.limits.processors, words)?;
+        return Ok(Said::Unconnected { span });
     }
     Err(here)
 }
@@ -97,6 +111,6 @@ pub fn header_line(turn: Turn, board: &Board, words: &mut Words) -> Result<Said,
         Turn::Ram => number_line(b"ram", 0, MOST_RAM_MIB, words),
         Turn::Actors => number_line(b"actors", 1, MOST_ACTORS, words),
         Turn::Esb => pages_line(words),
-        Turn::Level | Turn::Unclaimed => last_line(turn, board, words),
+        Turn::Level | Turn::Unclaimed | Turn::Unconnected => last_line(turn, board, words),
     }
 }

@@ -11,6 +11,7 @@ mod memory;
 mod numbers;
 mod pages;
 pub mod parser;
+mod processors;
 mod sources;
 pub mod stage;
 #[cfg(test)]

@@ -43,6 +43,8 @@ pub enum Said {
     Level { span: Span },
     /// Sources that start without a valid EAS.
     Unclaimed { span: Span },
+    /// Processors that start unconnected.
+    Unconnected { span: Span },
     /// The header is whole.
     Go,
     /// The script is over.

@@ -15,7 +15,7 @@ pub fn read_line(board: &Board, words: &mut Words) -> Result<Work, Misread>
 {
     let e = words.end_number(board.limits.processors)?;
     words.done()?;
-    Ok(Work::Once { op: Op::Read { e } })
+    Ok(Work::once(Op::Read { e }))
 }
 
 /// A look at the word at an address.
@@ -24,9 +24,7 @@ pub fn peek_line(words: &mut Words) -> Result<Work, Misread>
 {
     let addr = words.number()?;
     words.done()?;
-    Ok(Work::Once {
-        op: Op::Peek { addr },
-    })
+    Ok(Work::once(Op::Peek { addr }))
 }
 
 /// Some bytes that are made zero: an address, and how many.
@@ -36,7 +34,5 @@ pub fn zero_line(words: &mut Words) -> Result<Work, Misread>
     let addr = words.number()?;
     let len = words.number()?;
     words.done()?;
-    Ok(Work::Once {
-        op: Op::Zero { addr, len },
-    })
+    Ok(Work::once(Op::Zero { addr, len }))
 }

@@ -29,14 +29,12 @@ pub fn source_page_line(board: &Board, store: bool, words: &mut Words) -> Result
 {
     let s = words.bounded(0, board.limits.sources)?;
     let (page, offset) = place(board.source_pages(), words)?;
-    Ok(Work::Once {
-        op: Op::Esb {
-            s,
-            page,
-            offset,
-            store,
-        },
-    })
+    Ok(Work::once(Op::Esb {
+        s,
+        page,
+        offset,
+        store,
+    }))
 }
 
 /// A load or a store on a page of an END.
@@ -45,12 +43,10 @@ pub fn end_page_line(board: &Board, store: bool, words: &mut Words) -> Result<Wo
 {
     let e = words.end_number(board.limits.processors)?;
     let (page, offset) = place(END_PAGES, words)?;
-    Ok(Work::Once {
-        op: Op::EndEsb {
-            e,
-            page,
-            offset,
-            store,
-        },
-    })
+    Ok(Work::once(Op::EndEsb {
+        e,
+        page,
+        offset,
+        store,
+    }))
 }

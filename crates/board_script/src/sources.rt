@@ -15,9 +15,7 @@ pub fn access_line(board: &Board, op: PqOp, words: &mut Words) -> Result<Work, M
 {
     let s = words.bounded(0, board.limits.sources)?;
     words.done()?;
-    Ok(Work::Once {
-        op: Op::Pq { s, op },
-    })
+    Ok(Work::once(Op::Pq { s, op }))
 }
 
 /// The operation that sets the pair of a source.
@@ -27,12 +25,10 @@ pub fn set_line(board: &Board, words: &mut Words) -> Result<Work, Misread>
     let s = words.bounded(0, board.limits.sources)?;
     let pq = words.pair()?;
     words.done()?;
-    Ok(Work::Once {
-        op: Op::Pq {
-            s,
-            op: PqOp::Set { pq },
-        },
-    })
+    Ok(Work::once(Op::Pq {
+        s,
+        op: PqOp::Set { pq },
+    }))
 }
 
 /// The route of a notice of a source.
@@ -41,9 +37,7 @@ pub fn route_line(board: &Board, words: &mut Words) -> Result<Work, Misread>
 {
     let s = words.bounded(0, board.limits.sources)?;
     words.done()?;
-    Ok(Work::Once {
-        op: Op::Route { s },
-    })
+    Ok(Work::once(Op::Route { s }))
 }
 
 /// An operation on the word of a source, and the route of what it forwards.
@@ -52,7 +46,7 @@ pub fn then_route(board: &Board, op: PqOp, words: &mut Words) -> Result<Work, Mi
 {
     let s = words.bounded(0, board.limits.sources)?;
     words.done()?;
-    Ok(Work::ThenRoute { s, op })
+    Ok(Work::then_route(s, op))
 }
 
 /// A level source, the last word of a line. A message source is refused at the name of the operation, `here`.
@@ -74,9 +68,7 @@ pub fn level_line(
     ensures { result ≡ level_line_of board.now here op words.old }
 {
     let s = level_source(board, here, words)?;
-    Ok(Work::Once {
-        op: Op::Pq { s, op },
-    })
+    Ok(Work::once(Op::Pq { s, op }))
 }
 
 /// The rise of the line of a level source, and the route of what it forwards.
@@ -84,7 +76,7 @@ pub fn assert_line(board: &Board, here: Misread, words: &mut Words) -> Result<Wo
     ensures { result ≡ assert_line_of board.now here words.old }
 {
     let s = level_source(board, here, words)?;
-    Ok(Work::ThenRoute { s, op: PqOp::Raise })
+    Ok(Work::then_route(s, PqOp::Raise))
 }
 
 /// The operation that initialises the word of a source, with its line asserted or not. A message source, which
@@ -96,12 +88,10 @@ pub fn init_line(board: &Board, here: Misread, words: &mut Words) -> Result<Work
     let asserted = words.bounded(0, 2)? == 1;
     words.done()?;
     if board.is_level(s) || !asserted {
-        Ok(Work::Once {
-            op: Op::Pq {
-                s,
-                op: PqOp::Init { asserted },
-            },
-        })
+        Ok(Work::once(Op::Pq {
+            s,
+            op: PqOp::Init { asserted },
+        }))
     } else {
         Err(here)
     }

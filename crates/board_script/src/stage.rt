@@ -19,10 +19,12 @@ pub enum Turn {
     Ram,
     Actors,
     Esb,
-    /// A range of either kind, or `go`.
+    /// A range of any kind, or `go`.
     Level,
-    /// A range of unclaimed sources, or `go`.
+    /// A range of unclaimed sources or of unconnected processors, or `go`.
     Unclaimed,
+    /// A range of unconnected processors, or `go`.
+    Unconnected,
 }
 
 /// What may come next: a line of the header, a line of work, or nothing that counts.
@@ -47,6 +49,7 @@ fn turn_after(turn: Turn) -> Turn
         Turn::Esb => Turn::Level,
         Turn::Level => Turn::Level,
         Turn::Unclaimed => Turn::Unclaimed,
+        Turn::Unconnected => Turn::Unconnected,
     }
 }
 
@@ -58,6 +61,9 @@ fn after_header_line(turn: Turn, said: &Said) -> Stage
         Said::Nothing => Stage::Header { turn },
         Said::Unclaimed { .. } => Stage::Header {
             turn: Turn::Unclaimed,
+        },
+        Said::Unconnected { .. } => Stage::Header {
+            turn: Turn::Unconnected,
         },
         Said::Go => Stage::Work,
         _ => Stage::Header {
@@ -99,6 +105,9 @@ fn extend(board: &mut Board, turn: Turn, said: &Said)
         (Turn::Level, Said::Level { span }) => add_span(&mut board.level, span),
         (Turn::Level, Said::Unclaimed { span }) => add_span(&mut board.unclaimed, span),
         (Turn::Unclaimed, Said::Unclaimed { span }) => add_span(&mut board.unclaimed, span),
+        (Turn::Level, Said::Unconnected { span }) => add_span(&mut board.unconnected, span),
+        (Turn::Unclaimed, Said::Unconnected { span }) => add_span(&mut board.unconnected, span),
+        (Turn::Unconnected, Said::Unconnected { span }) => add_span(&mut board.unconnected, span),
         _ => {}
     }
 }

@@ -3,6 +3,7 @@
 mod configuring;
 mod memory;
 mod pages;
+mod processors;
 mod ranges;
 mod scripts;
 mod sources;

@@ -6,22 +6,88 @@ ghost use Rattle.xv_model.specs.declared.entries.Entry.{Entry};
 ghost use Rattle.xv_model.specs.account.Start.{Start};
 ghost use Rattle.xv_model.specs.board.Validity.{valid};
 ghost use Rattle.board_script.specs.declared.work.Work.{Work as AWork};
+ghost use Rattle.xv_model.specs.laws.Triggers.{is_forwarded};
+ghost use Rattle.board_script.specs.Work.{has_found};
 
 use xv_model::known::Known;
 use xv_model::operations::{Op, PqOp};
 use xv_model::outcomes::Outcome;
 
-/// A work line on its way. Where it stands is told by the outcome of its last operation.
+/// How a work line goes on after an operation.
 #[derive(Clone, Copy)]
-pub enum Work {
-    /// One operation.
-    Once { op: Op },
-    /// An operation on the word of a source; where it forwards, also the route of the notice.
-    ThenRoute { s: u32, op: PqOp },
+pub enum Then {
+    /// It is done.
+    Done,
+    /// The notice of this source is routed, where the operation forwarded one.
+    Route { s: u32 },
+    /// The oldest message is taken, where the operation took one.
+    Take,
+}
+
+/// A work line on its way: its first operation, and how it goes on. Where it stands is told by the outcome of
+/// its last operation.
+#[derive(Clone, Copy)]
+pub struct Work {
+    pub first: Op,
+    pub then: Then,
+}
+
+/// Whether an operation on a word forwarded, by what it answered.
+fn forwarded(outcome: &Outcome) -> bool
+    ensures { result ≡ is_forwarded outcome.now }
+{
+    match *outcome {
+        Outcome::Pq { forward, .. } => forward != 0,
+        _ => false,
+    }
+}
+
+/// Whether a take found a message, by what it answered.
+fn found(outcome: &Outcome) -> bool
+    ensures { result ≡ has_found outcome.now }
+{
+    matches!(outcome, Outcome::Present { .. } | Outcome::Escalated { .. })
 }
 
 impl Work {
-    ghost use Rattle.board_script.specs.Work.{next_op, IsAt, IsLast, Falls, HasValidSteps};
+    ghost use Rattle.board_script.specs.Work.{once, then_route, op_after, next_op, IsAt, IsLast, Falls, HasValidSteps};
+
+    /// Takes of the oldest message, until there is none.
+    pub(crate) const SETTLE: Work = Work {
+        first: Op::Take { i: 0 },
+        then: Then::Take,
+    };
+
+    /// One operation.
+    pub(crate) fn once(op: Op) -> Work
+        ensures { result ≡ once op }
+    {
+        Work {
+            first: op,
+            then: Then::Done,
+        }
+    }
+
+    /// An operation on the word of a source; where it forwards, also the route of the notice.
+    pub(crate) fn then_route(s: u32, op: PqOp) -> Work
+        ensures { result ≡ then_route s op }
+    {
+        Work {
+            first: Op::Pq { s, op },
+            then: Then::Route { s },
+        }
+    }
+
+    /// The operation that the line makes after one that answered this.
+    fn following(&self, outcome: &Outcome) -> Option<Op>
+        ensures { result ≡ op_after self.now.then outcome.now }
+    {
+        match self.then {
+            Then::Route { s } if forwarded(outcome) => Some(Op::Route { s }),
+            Then::Take if found(outcome) => Some(Op::Take { i: 0 }),
+            _ => None,
+        }
+    }
 
     /// The operation that the line makes next; none where it is done. `last` is what its last operation
     /// answered, none before the first one, and `known` what is known of the account with its entries.
@@ -42,22 +108,9 @@ impl Work {
         ensures stays { (b : Board) → HasValidSteps b self.old → HasValidSteps b self.new }
     {
         let _ = known;
-        match *self {
-            Work::Once { op } => match last {
-                None => Some(op),
-                Some(_) => None,
-            },
-            Work::ThenRoute { s, op } => match last {
-                None => Some(Op::Pq { s, op }),
-                Some(Outcome::Pq { forward, .. }) => {
-                    if *forward == 0 {
-                        None
-                    } else {
-                        Some(Op::Route { s })
-                    }
-                }
-                Some(_) => None,
-            },
+        match last {
+            None => Some(self.first),
+            Some(outcome) => self.following(outcome),
         }
     }
 }

@@ -2,7 +2,7 @@
 
 ghost use Rattle.std.specs.Prelude.{◌≡◌, OnErr};
 ghost use Rattle.board_script.specs.Words.{answer_with};
-ghost use Rattle.board_script.specs.Working.{rare_steps_by, steps_by, work_of};
+ghost use Rattle.board_script.specs.Working.{move_steps_by, ring_steps_by, rare_steps_by, steps_by, work_of};
 
 use crate::configuring::{endset, hcall};
 use crate::faults::Misread;
@@ -10,6 +10,10 @@ use crate::lines::Said;
 use crate::memory::{peek_line, read_line, zero_line};
 use crate::numbers::bounded;
 use crate::pages::{end_page_line, source_page_line};
+use crate::processors::{
+    ack_line, connect_line, cppr_line, inject_line, pull_line, push_line, regs_line, restore_line,
+    save_line, settle_line, take_line,
+};
 use crate::sources::{
     access_line, assert_line, init_line, level_line, route_line, set_line, then_route,
 };
@@ -18,7 +22,29 @@ use crate::work::Work;
 use xv_model::board::Board;
 use xv_model::operations::PqOp;
 
-/// The work of a line, by a name that comes less often; an unknown one is refused `here`.
+/// The work of a line that moves the context of a processor, by its name; an unknown one is refused `here`.
+fn named_move(board: &Board, here: Misread, name: &[u8], words: &mut Words) -> Result<Work, Misread>
+    ensures { result ≡ move_steps_by board.now here name.now words.old }
+{
+    if same(name, b"push") {
+        return push_line(board, words);
+    }
+    if same(name, b"pull") {
+        return pull_line(board, words);
+    }
+    if same(name, b"connect") {
+        return connect_line(board, words);
+    }
+    if same(name, b"restore") {
+        return restore_line(board, words);
+    }
+    if same(name, b"save") {
+        return save_line(board, words);
+    }
+    Err(here)
+}
+
+/// The work of a line, by a name that comes less often.
 fn named_rarely(
     board: &Board,
     here: Misread,
@@ -57,7 +83,37 @@ fn named_rarely(
     if same(name, b"hcall") {
         return hcall(words);
     }
-    Err(here)
+    named_move(board, here, name, words)
+}
+
+/// The work of a line on messages or on the ring of a thread, by its name.
+fn named_on_ring(
+    board: &Board,
+    here: Misread,
+    name: &[u8],
+    words: &mut Words,
+) -> Result<Work, Misread>
+    ensures { result ≡ ring_steps_by board.now here name.now words.old }
+{
+    if same(name, b"settle") {
+        return settle_line(words);
+    }
+    if same(name, b"ack") {
+        return ack_line(board, words);
+    }
+    if same(name, b"cppr") {
+        return cppr_line(board, words);
+    }
+    if same(name, b"take") {
+        return take_line(words);
+    }
+    if same(name, b"inject") {
+        return inject_line(board, words);
+    }
+    if same(name, b"regs") {
+        return regs_line(board, words);
+    }
+    named_rarely(board, here, name, words)
 }
 
 /// The work of a line, by the name of its operation and what stands after it. The names that come most often
@@ -95,7 +151,7 @@ fn named(board: &Board, here: Misread, name: &[u8], words: &mut Words) -> Result
     if same(name, b"read") {
         return read_line(board, words);
     }
-    named_rarely(board, here, name, words)
+    named_on_ring(board, here, name, words)
 }
 
 /// Puts what a line after the header says into `said`: the end of the script, or an actor and its work.

@@ -1,0 +1,227 @@
+//! Lines on processors, messages and rings.
+
+use crate::tests::{Blind, assert_places, assert_read, work_of};
+use std::process::Abort;
+use xv_model::operations::{Access, Op};
+use xv_model::outcomes::{Outcome, Presented};
+
+#[test]
+fn reads_lines_on_processors(rt: HostRuntime) {
+    let good = [
+        b"0 connect 0".as_slice(),
+        b" 15  connect  0x3F ",
+        b"0 restore 63 31",
+        b"0 restore 0x0 000",
+        b"0xf save 63",
+        b"0 push 31 63",
+        b"0 push 0x1f  0X3f",
+        b"0 pull 31 ",
+    ];
+    assert_read(&rt, &good, true);
+}
+
+#[test]
+fn reads_lines_on_messages_and_rings(rt: HostRuntime) {
+    let good = [
+        b"0 settle".as_slice(),
+        b"  0xF  settle  ",
+        b"0 take 0",
+        b"0 take 0xffffffff",
+        b"0 take 00004294967295",
+        b"0 ack 31",
+        b"0 cppr 31 255",
+        b"0 cppr 0 0xFF",
+        b"0 inject 31 0xff",
+        b"0 inject 0 8",
+        b"0 regs 0x1f",
+    ];
+    assert_read(&rt, &good, true);
+}
+
+#[test]
+fn refuses_lines_on_processors(rt: HostRuntime) {
+    let bad = [
+        (b"0 connect 64".as_slice(), 11),
+        (b"0 connect x", 11),
+        (b"0 connect", 10),
+        (b"0 connect 0 0", 13),
+        (b"0 Connect 0", 3),
+        (b"16 connect 0", 1),
+        (b"0 restore 64 0", 11),
+        (b"0 restore 0 32", 13),
+        (b"0 restore 63 -", 14),
+        (b"0 restore  ", 12),
+        (b"0 restore 0", 12),
+        (b"0 restore 0 0 0", 15),
+        (b"0 save 64", 8),
+        (b"0 save 18446744073709551616", 8),
+        (b"0 save", 7),
+        (b"0 save 0  1", 11),
+    ];
+    assert_places(&rt, &bad);
+}
+
+#[test]
+fn refuses_pushes_and_pulls(rt: HostRuntime) {
+    let bad = [
+        (b"0 push 32 0".as_slice(), 8),
+        (b"0 push 0 64", 10),
+        (b"0 push 0 4294967296", 10),
+        (b"0 push 0x 0", 8),
+        (b"0 push", 7),
+        (b"0 push 0", 9),
+        (b"0 push 0 0 0", 12),
+        (b"0 pull 32", 8),
+        (b"0 pull", 7),
+        (b"0 pull 0 0", 10),
+    ];
+    assert_places(&rt, &bad);
+}
+
+#[test]
+fn refuses_lines_on_messages(rt: HostRuntime) {
+    let bad = [
+        (b"0 settle 0".as_slice(), 10),
+        (b"0 settled", 3),
+        (b"0 Settle", 3),
+        (b"16 settle", 1),
+        (b"0 take 4294967296", 8),
+        (b"0 take 0x", 8),
+        (b"0 take", 7),
+        (b"0 take 0 0", 10),
+    ];
+    assert_places(&rt, &bad);
+}
+
+#[test]
+fn refuses_lines_on_rings(rt: HostRuntime) {
+    let bad = [
+        (b"0 ack 32".as_slice(), 7),
+        (b"0 ack", 6),
+        (b"0 ack 0 0", 9),
+        (b"0 cppr 32 0", 8),
+        (b"0 cppr 0 256", 10),
+        (b"0 cppr 0 0x100", 10),
+        (b"0 cppr 0 -1", 10),
+        (b"0 cppr", 7),
+        (b"0 cppr 0", 9),
+        (b"0 cppr 0 0 0", 12),
+        (b"0 inject 32 0", 10),
+        (b"0 inject 0 256", 12),
+        (b"0 inject", 9),
+        (b"0 inject 0 ", 12),
+        (b"0 inject 0 0 0", 14),
+        (b"0 regs 32", 8),
+        (b"0 regs", 7),
+        (b"0 regs 0 0", 10),
+    ];
+    assert_places(&rt, &bad);
+}
+
+#[test]
+fn makes_moves_of_contexts(rt: HostRuntime) {
+    let mut connect = work_of(&rt, b"0 connect 63");
+    assert!(rt; matches!(connect.next(None, &Blind), Some(Op::Connect { v: 63 })));
+    assert!(rt;
+        connect
+            .next(Some(&Outcome::Code { code: 0 }), &Blind)
+            .is_none()
+    );
+    let mut restore = work_of(&rt, b"0 restore 17 5");
+    assert!(rt;
+        matches!(
+            restore.next(None, &Blind),
+            Some(Op::Restore { v: 17, t: 5 })
+        )
+    );
+    assert!(rt; restore.next(Some(&Outcome::Fine), &Blind).is_none());
+    let mut save = work_of(&rt, b"0 save 9");
+    assert!(rt; matches!(save.next(None, &Blind), Some(Op::Save { v: 9 })));
+    assert!(rt; save.next(Some(&Outcome::Fine), &Blind).is_none());
+}
+
+/// Asserts that a line makes one access of a thread to the TIMA: on a page at an offset, of so many bytes, a load
+/// or a store of a value.
+fn assert_access(
+    rt: &impl Abort,
+    line: &[u8],
+    thread: u32,
+    place: (u8, u16, u8),
+    stored: Option<u64>,
+) {
+    let mut work = work_of(rt, line);
+    match work.next(None, &Blind) {
+        Some(
+            Op::Tima {
+                t,
+                page,
+                offset,
+                size,
+                access,
+            },
+        ) => {
+            assert_eq!(rt; t, thread);
+            assert_eq!(rt; page, place.0);
+            assert_eq!(rt; offset, place.1);
+            assert_eq!(rt; size, place.2);
+            match access {
+                Access::Load => assert!(rt; stored.is_none()),
+                Access::Store { value } => assert_eq!(rt; Some(value), stored),
+            }
+        }
+        _ => assert!(rt; false),
+    }
+    assert!(rt; work.next(Some(&Outcome::BadAccess), &Blind).is_none());
+}
+
+#[test]
+fn makes_accesses_to_the_tima(rt: HostRuntime) {
+    assert_access(&rt, b"0 push 3 17", 3, (1, 0x18, 4), Some(0x80000411));
+    assert_access(&rt, b"0 push 31 0", 31, (1, 0x18, 4), Some(0x80000400));
+    assert_access(&rt, b"0 pull 3", 3, (1, 0x818, 4), None);
+    assert_access(&rt, b"0 ack 4", 4, (2, 0x810, 2), None);
+    assert_access(&rt, b"0 cppr 5 0xff", 5, (2, 0x11, 1), Some(0xff));
+    assert_access(&rt, b"0 inject 6 7", 6, (2, 0x812, 1), Some(7));
+    assert_access(&rt, b"0 regs 7", 7, (2, 0x10, 8), None);
+}
+
+#[test]
+fn makes_takes(rt: HostRuntime) {
+    let found = Outcome::Present {
+        v: 0,
+        p: 6,
+        presented: Presented::Found,
+        escalates: false,
+    };
+    let mut take = work_of(&rt, b"0 take 4294967295");
+    assert!(rt; matches!(take.next(None, &Blind), Some(Op::Take { i: 4294967295 })));
+    assert!(rt; take.next(Some(&found), &Blind).is_none());
+}
+
+#[test]
+fn takes_messages_until_there_is_none(rt: HostRuntime) {
+    let mut settle = work_of(&rt, b"3 settle");
+    assert!(rt; matches!(settle.next(None, &Blind), Some(Op::Take { i: 0 })));
+    for presented in [Presented::Found, Presented::Backlogged, Presented::Lost] {
+        for escalates in [false, true] {
+            let found = Outcome::Present {
+                v: 1,
+                p: 6,
+                presented,
+                escalates,
+            };
+            assert!(rt; matches!(settle.next(Some(&found), &Blind), Some(Op::Take { i: 0 })));
+        }
+    }
+    let escalated = Outcome::Escalated { e: 7, run: None };
+    assert!(rt;
+        matches!(
+            settle.next(Some(&escalated), &Blind),
+            Some(Op::Take { i: 0 })
+        )
+    );
+    assert!(rt; settle.next(Some(&Outcome::NoMessage), &Blind).is_none());
+    let mut refused = work_of(&rt, b"3 settle");
+    assert!(rt; refused.next(None, &Blind).is_some());
+    assert!(rt; refused.next(Some(&Outcome::BadAccess), &Blind).is_none());
+}
