@@ -15,6 +15,11 @@ use Rattle.xv_model.specs.account.Start.{start}
 use Rattle.xv_model.proofs.OneAccount.{one_account}
 use Rattle.xv_model.proofs.TriggerLaws.{numbered_in_order, each_accounted, comes_again}
 use Rattle.xv_model.proofs.QueueLaws.{each_reads_next, each_reads_as_written}
+use Rattle.xv_model.proofs.SoundMoves.{each_has_one_user, each_is_user}
+use Rattle.xv_model.proofs.KeptOff.{each_is_kept_off}
+use Rattle.xv_model.proofs.ShownLaws.{each_is_shown}
+use Rattle.xv_model.proofs.PendingLaws.{each_is_in_ring, each_stays_pending}
+use Rattle.xv_model.proofs.AcknowledgementLaws.{each_accepts_most_favoured, each_answers_accepted, each_leaves_alone, each_leaves_all}
 use Rattle.xv_model.proofs.RouteLaws.{routed_in_order, once_forwarded, each_enters_once}
 use Rattle.account.specs.Account.{report_text, account_text}
 use Rattle.account.specs.text.Refusal.{too_long_line}
@@ -97,7 +102,7 @@ account_first : (b : Board) (work : List WorkLine) (g : List Entry) → IsAccoun
 account_first b work g ran = λ h is. ([], ap (account_text b) (same_account b work g h ran is) ∙ sym (append-nil (account_text b g)))
 
 -- the report was told
-pub all_told : (b : Board) (a v : Unread) (m : Held) (t t1 t2 t' : Told) → m.tables.board ≡ b → (r : RunsAllWork b a t m v t1) → ((h : List Entry) → StandsFor m (start m.tables.board) h → Tells t1 (report_text (start m.tables.board) h) t2) → Tells t2 [] t' → t'.gathered ≡ [] → RunsAll a t v t'
+pub all_told : (b : Board) (a v : Unread) (m : Held) (t t1 t2 t' : Told) → m.fabric.tables.board ≡ b → (r : RunsAllWork b a t m v t1) → ((h : List Entry) → StandsFor m (start m.fabric.tables.board) h → Tells t1 (report_text (start m.fabric.tables.board) h) t2) → Tells t2 [] t' → t'.gathered ≡ [] → RunsAll a t v t'
 all_told b a v m t t1 t2 t' e r report flushed all =
     let told = subst (λ c. (h : List Entry) → StandsFor m (start c) h → Tells t1 (report_text (start c) h) t2) e report in
     record {
@@ -121,13 +126,13 @@ account_failed b a v m t t1 t' r f = record {
 }
 
 -- the report was not written whole
-pub report_failed : (b : Board) (a v : Unread) (m : Held) (t t1 t' : Told) → m.tables.board ≡ b → t.faults ≤ t1.faults → RunsAllWork b a t m v t1 → ((h : List Entry) → StandsFor m (start m.tables.board) h → Fails t1 (report_text (start m.tables.board) h) t') → FailsWriting a t v t'
+pub report_failed : (b : Board) (a v : Unread) (m : Held) (t t1 t' : Told) → m.fabric.tables.board ≡ b → t.faults ≤ t1.faults → RunsAllWork b a t m v t1 → ((h : List Entry) → StandsFor m (start m.fabric.tables.board) h → Fails t1 (report_text (start m.fabric.tables.board) h) t') → FailsWriting a t v t'
 report_failed b a v m t t1 t' e l r report =
     let failed = subst (λ c. (h : List Entry) → StandsFor m (start c) h → Fails t1 (report_text (start c) h) t') e report in
     account_failed b a v m t t1 t' r (fails_after t t1 t' (told_by (Some b) r.account) (report_text (start b) r.account) l r.has_run.tells (failed r.account r.has_run.stands))
 
 -- the last piece was not written whole
-pub flush_failed : (b : Board) (a v : Unread) (m : Held) (t t1 t2 t' : Told) → m.tables.board ≡ b → t.faults ≤ t2.faults → RunsAllWork b a t m v t1 → ((h : List Entry) → StandsFor m (start m.tables.board) h → Tells t1 (report_text (start m.tables.board) h) t2) → Fails t2 [] t' → FailsWriting a t v t'
+pub flush_failed : (b : Board) (a v : Unread) (m : Held) (t t1 t2 t' : Told) → m.fabric.tables.board ≡ b → t.faults ≤ t2.faults → RunsAllWork b a t m v t1 → ((h : List Entry) → StandsFor m (start m.fabric.tables.board) h → Tells t1 (report_text (start m.fabric.tables.board) h) t2) → Fails t2 [] t' → FailsWriting a t v t'
 flush_failed b a v m t t1 t2 t' e l r report f =
     let told = subst (λ c. (h : List Entry) → StandsFor m (start c) h → Tells t1 (report_text (start c) h) t2) e report in
     account_failed b a v m t t1 t' r
@@ -191,6 +196,16 @@ account_written a v t t' n meets r = record {
   enter_once = each_enters_once r.board r.account r.ran.1;
   reads_next = each_reads_next r.board r.account r.ran.1;
   reads_as_written = each_reads_as_written r.board r.account r.ran.1;
+  one_user = each_has_one_user r.board r.account r.ran.1;
+  users = each_is_user r.board r.account r.ran.1;
+  kept_off = each_is_kept_off r.board r.account r.ran.1;
+  in_ring = each_is_in_ring r.board r.account r.ran.1;
+  shown = each_is_shown r.board r.account r.ran.1;
+  stay_pending = each_stays_pending r.board r.account r.ran.1;
+  accept_most_favoured = each_accepts_most_favoured r.board r.account r.ran.1;
+  answer_accepted = each_answers_accepted r.board r.account r.ran.1;
+  leave_alone = each_leaves_alone r.board r.account r.ran.1;
+  leave_all = each_leaves_all r.board r.account r.ran.1;
   written = appended t t' (account_text r.board r.account) n.gathered r.all r.tells;
 }
 

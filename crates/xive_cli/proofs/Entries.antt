@@ -22,8 +22,8 @@ use Rattle.xive_cli.proofs.Telling.{tells_both, fails_after}
 -- the line makes this operation next, on the board of the machine
 pub record MakesNext (w : WorkLine) (m : Held) (o : Op) (z : Start) (before part : List Entry) : Type 0 where
   pub next : next_op w.work z before part ≡ Some o
-  pub actor : w.actor < m.tables.board.limits.actors
-  pub valid_op : valid m.tables.board o ≡ true
+  pub actor : w.actor < m.fabric.tables.board.limits.actors
+  pub valid_op : valid m.fabric.tables.board o ≡ true
 
 -- an entry of the operation that is legal next goes on with the line
 goes_legally : (w : WorkLine) (m : Held) (o : Op) (outcome : Outcome) (z : Start) (before part : List Entry) → IsLegalPart z (line_for w) before part → StandsFor m z (part ++ before) → MakesNext w m o z before part →
@@ -33,8 +33,8 @@ goes_legally w m o outcome z before part p st n e = record {
   legal = (
     p.legal,
     record {
-      actor = subst (λ (b : Board). w.actor < b.limits.actors) st.parts.tables.board n.actor;
-      valid_op = subst (λ (b : Board). valid b o ≡ true) st.parts.tables.board n.valid_op;
+      actor = subst (λ (b : Board). w.actor < b.limits.actors) st.parts.fabric.tables.board n.actor;
+      valid_op = subst (λ (b : Board). valid b o ≡ true) st.parts.fabric.tables.board n.valid_op;
       outcome = e;
     },
   );

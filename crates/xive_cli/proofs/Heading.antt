@@ -85,6 +85,11 @@ after_unclaimed (Header turn) span h = tt
 after_unclaimed Work span h = h
 after_unclaimed Ended span h = h
 
+after_unconnected : (stage : Stage) (span : Span) → IsInHeader stage → IsInHeader (stage_after stage (said.Unconnected span))
+after_unconnected (Header turn) span h = tt
+after_unconnected Work span h = h
+after_unconnected Ended span h = h
+
 after_nothing : (stage : Stage) → IsInHeader stage → IsInHeader (stage_after stage said.Nothing)
 after_nothing (Header turn) h = tt
 after_nothing Work h = h
@@ -105,6 +110,7 @@ header_line a b (said.Number n) h s = record { goes = s.next.goes []; rises = s.
 header_line a b (said.Pages two store) h s = record { goes = s.next.goes []; rises = s.next.rises; stage = still _ _ s.next.stage (after_pages a.parser.stage two store h) }
 header_line a b (said.Level span) h s = record { goes = s.next.goes []; rises = s.next.rises; stage = still _ _ s.next.stage (after_level a.parser.stage span h) }
 header_line a b (said.Unclaimed span) h s = record { goes = s.next.goes []; rises = s.next.rises; stage = still _ _ s.next.stage (after_unclaimed a.parser.stage span h) }
+header_line a b (said.Unconnected span) h s = record { goes = s.next.goes []; rises = s.next.rises; stage = still _ _ s.next.stage (after_unconnected a.parser.stage span h) }
 header_line a b said.Go h s = record { goes = s.next.goes []; rises = s.next.rises; stage = s.next.stage ∙ after_go a.parser.stage h }
 header_line a b said.End h s = absurd (no_end a.parser.stage a.parser.board h s.fits)
 header_line a b (said.Work actor w) h s = absurd (no_work a.parser.stage a.parser.board actor w h s.fits)
@@ -160,5 +166,6 @@ header_goes_on (said.Number k) stage n s = s
 header_goes_on (said.Pages two store) stage n s = s
 header_goes_on (said.Level span) stage n s = s
 header_goes_on (said.Unclaimed span) stage n s = s
+header_goes_on (said.Unconnected span) stage n s = s
 header_goes_on said.End stage n s = s
 header_goes_on (said.Work actor w) stage n s = s

@@ -59,6 +59,7 @@ says_line a b (said.Number n) g f = record { fits = f; next = goes_by a b (said.
 says_line a b (said.Pages two store) g f = record { fits = f; next = goes_by a b (said.Pages two store) g tt }
 says_line a b (said.Level span) g f = record { fits = f; next = goes_by a b (said.Level span) g tt }
 says_line a b (said.Unclaimed span) g f = record { fits = f; next = goes_by a b (said.Unclaimed span) g tt }
+says_line a b (said.Unconnected span) g f = record { fits = f; next = goes_by a b (said.Unconnected span) g tt }
 says_line a b said.Go g f = record { fits = f; next = goes_by a b said.Go g tt }
 says_line a b (said.Work actor w) g f = record { fits = f; next = goes_by a b (said.Work actor w) g tt }
 
@@ -104,6 +105,7 @@ says_from a u b (said.Number n) goes p given s = record { fits = fits_from a u (
 says_from a u b (said.Pages two store) goes p given s = record { fits = fits_from a u (said.Pages two store) p s.fits; next = goes_by_from a u b (said.Pages two store) goes p given s.next }
 says_from a u b (said.Level span) goes p given s = record { fits = fits_from a u (said.Level span) p s.fits; next = goes_by_from a u b (said.Level span) goes p given s.next }
 says_from a u b (said.Unclaimed span) goes p given s = record { fits = fits_from a u (said.Unclaimed span) p s.fits; next = goes_by_from a u b (said.Unclaimed span) goes p given s.next }
+says_from a u b (said.Unconnected span) goes p given s = record { fits = fits_from a u (said.Unconnected span) p s.fits; next = goes_by_from a u b (said.Unconnected span) goes p given s.next }
 says_from a u b said.Go goes p given s = record { fits = fits_from a u said.Go p s.fits; next = goes_by_from a u b said.Go goes p given s.next }
 says_from a u b (said.Work actor w) goes p given s = record { fits = fits_from a u (said.Work actor w) p s.fits; next = goes_by_from a u b (said.Work actor w) goes p given s.next }
 

@@ -8,7 +8,7 @@ use Rattle.xv_model.specs.route.Flight.{flight}
 use Rattle.xv_model.specs.account.Index.{next_index}
 use Rattle.account.specs.Account.{texts_below, source_line_of, queue_line_of, processor_line_of, ring_line_of}
 use Rattle.account.specs.text.Report.{end_line, processor_line, flight_line, notices_line, done_line}
-use Rattle.machine.specs.declared.views.ProcessorView.{ProcessorView}
+use Rattle.nvt_backlog.specs.declared.vp.Vp.{Vp}
 use Rattle.machine.specs.Machine.{Held, StandsFor}
 use Rattle.xive_cli.specs.Output.{Told, Tells, Fails}
 
@@ -25,16 +25,16 @@ abbrev pub queues_text : Start → List Entry → List ℕ
 queues_text z h = texts_below (queue_line_of z h) (ends_per_processor * z.board.limits.processors)
 
 -- the line of a processor, where it is connected
-abbrev pub connected_line : ℕ → ProcessorView → List ℕ
-connected_line v p = if p.connected then processor_line v p.phase p.cppr p.ipb p.backlog else []
+abbrev pub connected_line : ℕ → Vp → List ℕ
+connected_line v p = if p.valid then processor_line v p.phase p.cppr p.ipb p.backlog else []
 
 -- the lines of the processors
 abbrev pub processors_text : Start → List Entry → List ℕ
-processors_text z h = texts_below (processor_line_of z) z.board.limits.processors
+processors_text z h = texts_below (processor_line_of z h) z.board.limits.processors
 
 -- the lines of the rings
 abbrev pub rings_text : Start → List Entry → List ℕ
-rings_text z h = texts_below ring_line_of z.board.limits.threads
+rings_text z h = texts_below (ring_line_of z h) z.board.limits.threads
 
 -- the last lines: what is on its way
 abbrev pub last_text : Start → List Entry → List ℕ
@@ -42,8 +42,8 @@ last_text z h = flight_line (length (flight z h)) ++ notices_line (all_outstandi
 
 -- whatever account of its board a machine represents, this text of it was told
 abbrev pub TellsOf : Held → (Start → List Entry → List ℕ) → Told → Told → Type 0
-TellsOf m text a b = (h : List Entry) → StandsFor m (start m.tables.board) h → Tells a (text (start m.tables.board) h) b
+TellsOf m text a b = (h : List Entry) → StandsFor m (start m.fabric.tables.board) h → Tells a (text (start m.fabric.tables.board) h) b
 
 -- the sink failed at it
 abbrev pub FailsOf : Held → (Start → List Entry → List ℕ) → Told → Told → Type 0
-FailsOf m text a b = (h : List Entry) → StandsFor m (start m.tables.board) h → Fails a (text (start m.tables.board) h) b
+FailsOf m text a b = (h : List Entry) → StandsFor m (start m.fabric.tables.board) h → Fails a (text (start m.fabric.tables.board) h) b

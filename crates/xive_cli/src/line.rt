@@ -24,10 +24,10 @@ fn make_entry<K: Sink>(
     actor: u32,
     op: &Op,
 ) -> Result<Outcome, Failed>
-    requires op { IsTrue (valid machine.old.tables.board op.now) }
+    requires op { IsTrue (valid machine.old.fabric.tables.board op.now) }
     requires count { machine.old.count < 2 ^ 62 }
     ensures sink { output.new.sink.ghost_name ≡ output.old.sink.ghost_name }
-    ensures board { machine.new.tables.board ≡ machine.old.tables.board }
+    ensures board { machine.new.fabric.tables.board ≡ machine.old.fabric.tables.board }
     ensures count { machine.new.count ≡ machine.old.count + 1 }
     ensures tells { IfOk result (λ outcome. TellsEntry machine.old (told output.old)
         (entry_of actor op.now outcome) machine.new (told output.new)) }
@@ -37,7 +37,13 @@ fn make_entry<K: Sink>(
 {
     let index = machine.count();
     let entry = machine.step(actor, op);
-    add_entry(&mut output.writer.gathered, index, &entry);
+    add_entry(
+        &mut output.writer.gathered,
+        index,
+        actor,
+        op,
+        &entry.outcome,
+    );
     output.writer.settle(output.sink)?;
     Ok(entry.outcome)
 }
@@ -49,12 +55,13 @@ pub fn run_line<K: Sink>(
     actor: u32,
     work: Work,
 ) -> Result<(), Failed>
-    requires work { IsWork machine.old.tables.board actor work }
+    requires work { IsWork machine.old.fabric.tables.board actor work }
     requires legal { IsLegalMachine machine.old }
     requires room { machine.old.count + load work None (burden_of machine.old) ≤ 2 ^ 62 }
     ensures sink { output.new.sink.ghost_name ≡ output.old.sink.ghost_name }
-    ensures board { machine.new.tables.board ≡ machine.old.tables.board }
-    ensures few { machine.new.count ≤ machine.old.count + load work None (burden_of machine.old) }
+    ensures board { machine.new.fabric.tables.board ≡ machine.old.fabric.tables.board }
+    ensures few { OnOk result (machine.new.count + burden_of machine.new
+        ≤ machine.old.count + load work None (burden_of machine.old)) }
     ensures runs { OnOk result (RunsLine (record { actor = actor; work = work })
         machine.old (told output.old) machine.new (told output.new)) }
     ensures fails { OnErr result (FailsLine (record { actor = actor; work = work })

@@ -12,7 +12,8 @@ use account::report::{
     add_done, add_end, add_flight, add_notices, add_processor, add_queue, add_ring, add_source,
 };
 use arrayvec::ArrayVec;
-use machine::{Machine, ProcessorView};
+use machine::Machine;
+use nvt_backlog::Vp;
 use xv_base::limits::ENDS_PER_PROCESSOR;
 use xv_io::{Failed, ROOM, Sink};
 
@@ -66,12 +67,12 @@ fn put_queues<K: Sink>(machine: &Machine, output: &mut Output<'_, K>) -> Result<
 }
 
 /// Appends the line of a processor, where it is connected.
-fn add_connected(text: &mut ArrayVec<u8, ROOM>, v: u32, processor: &ProcessorView)
+fn add_connected(text: &mut ArrayVec<u8, ROOM>, v: u32, processor: &Vp)
     requires { array_vec_len text.old + LONGEST_REPORT_LINE ≤ ROOM }
     ensures items { text.new.items ≡ text.old.items ++ connected_line v processor.now }
     ensures len { array_vec_len text.new ≤ array_vec_len text.old + LONGEST_REPORT_LINE }
 {
-    if processor.connected {
+    if processor.valid {
         add_processor(
             text,
             v,

@@ -26,12 +26,12 @@ pub fn run_work<S: Source, K: Sink>(
     machine: &mut Machine,
 ) -> Result<(), Stop>
     requires stage { input.old.parser.stage ≡ Stage.Work }
-    requires board { machine.old.tables.board ≡ input.old.parser.board }
+    requires board { machine.old.fabric.tables.board ≡ input.old.parser.board }
     requires count { machine.old.count ≡ 0 }
     requires stands { StandsFor machine.old (start input.old.parser.board) [] }
     ensures source { input.new.source.ghost_name ≡ input.old.source.ghost_name }
     ensures sink { output.new.sink.ghost_name ≡ output.old.sink.ghost_name }
-    ensures board { machine.new.tables.board ≡ input.old.parser.board }
+    ensures board { machine.new.fabric.tables.board ≡ input.old.parser.board }
     ensures done { OnOk result (RunsAllWork input.old.parser.board
         (unread input.old) (told output.old) machine.new (unread input.new) (told output.new)) }
     ensures stop { IfErr result (λ stop. Stops stop

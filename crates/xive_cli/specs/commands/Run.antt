@@ -12,6 +12,8 @@ use Rattle.xv_model.specs.account.Legal.{IsLegal}
 use Rattle.xv_model.specs.account.Scripts.{Follows}
 use Rattle.xv_model.specs.laws.Triggers.{AreNumbered, AreAccounted, ComeAgain}
 use Rattle.xv_model.specs.laws.Entering.{RoutesAreNumbered, RoutesAreForwarded, EntersOnce}
+use Rattle.xv_model.specs.laws.Acknowledgements.{AcceptMostFavoured, AnswerAccepted, LeaveAlone, LeaveAll}
+use Rattle.xv_model.specs.laws.Pending.{HaveOneUser, AreUsers, AreKeptOff, AreInRing, AreShown, StayPending}
 use Rattle.xv_model.specs.laws.Queues.{ReadsNext, ReadsAsWritten}
 use Rattle.account.specs.Account.{header_text, entries_text, account_text}
 use Rattle.account.specs.text.Refusal.{refusal_line, too_long_line}
@@ -48,7 +50,7 @@ status_of (Accepted b work) = status.Done
 status_of (Refused fault so_far) = status.Refused
 status_of (TooLong so_far) = status.TooLong
 
--- the known bytes are a script of a board and work lines, and what was appended is the text of that board and of an account that follows the lines and is legal from the board's start record; the forwards, triggers, coalesced triggers and routes of this account, what these write, and what is read of it, are as the laws say
+-- the known bytes are a script of a board and work lines, and what was appended is the text of that board and of an account that follows the lines and is legal from the board's start record; the forwards, triggers, coalesced triggers and routes of this account, what these write, what is read of it, and what is pending and acknowledged in it, are as the laws say
 pub record WritesAccount (bytes held held' : Option (List ℕ)) : Type 0 where
   pub board : Board
   pub work : List WorkLine
@@ -64,6 +66,16 @@ pub record WritesAccount (bytes held held' : Option (List ℕ)) : Type 0 where
   pub enter_once : EntersOnce board account
   pub reads_next : ReadsNext board account
   pub reads_as_written : ReadsAsWritten board account
+  pub one_user : HaveOneUser board account
+  pub users : AreUsers board account
+  pub kept_off : AreKeptOff board account
+  pub in_ring : AreInRing board account
+  pub shown : AreShown board account
+  pub stay_pending : StayPending board account
+  pub accept_most_favoured : AcceptMostFavoured board account
+  pub answer_accepted : AnswerAccepted board account
+  pub leave_alone : LeaveAlone board account
+  pub leave_all : LeaveAll board account
   pub written : Appends held held' (account_text board account)
 
 -- a line of the known bytes is refused, and what was appended is what the lines before it give, and the refusal

@@ -15,6 +15,7 @@ mod faults;
 mod levels;
 mod limits;
 mod pages;
+mod processors;
 mod queues;
 mod refusals;
 mod routes;

@@ -2,6 +2,7 @@ use Rattle.std.proofs.Common.{◌∷◌, ◌++◌, sym, ◌∙◌, ap, subst}
 use Rattle.account.specs.text.Entry.{entry_line}
 use Rattle.machine.specs.Machine.{StandsFor}
 use Rattle.xive_cli.specs.Output.{told}
+use Rattle.xive_cli.specs.Line.{entry_of}
 use Rattle.xive_cli.proofs.Entries.{entry_is}
 use Rattle.xive_cli.proofs.Telling.{on_err_anyway, tells_printed, fails_printed}
 use Rattle.xive_cli.proofs.line.make_entry.Goals as goal
@@ -18,7 +19,7 @@ returns-in_err-settle-clause-fails g c =
         stands = λ z h st. subst (λ y. StandsFor c.step-entry.new.self z (y ∷ h)) (sym same) (c.step-entry.ensures.stands z h st);
       };
       fails = fails_printed (told c.args.output.now) _ c.add_entry.new.text.items _
-          (c.add_entry.ensures.items ∙ ap (λ text. c.args.output.now.writer.gathered.items ++ text) (ap (λ i. entry_line i x) c.count-index.ensures ∙ ap (entry_line c.args.machine.now.count) (sym same)))
+          (c.add_entry.ensures.items ∙ ap (λ text. c.args.output.now.writer.gathered.items ++ text) (ap (λ i. entry_line i (entry_of c.args.actor c.args.op.now x.outcome)) c.count-index.ensures))
           e.err e.failed e.lost;
     })
 
@@ -33,6 +34,6 @@ returns-clause-tells g c =
         stands = λ z h st. subst (λ y. StandsFor c.step-entry.new.self z (y ∷ h)) (sym same) (c.step-entry.ensures.stands z h st);
       };
       tells = tells_printed (told c.args.output.now) (record { gathered = c.settle.new.self.gathered.items; held = g.K.Sink.held c.settle.new.sink; faults = g.K.Sink.faults c.settle.new.sink }) c.add_entry.new.text.items _
-          (c.add_entry.ensures.items ∙ ap (λ text. c.args.output.now.writer.gathered.items ++ text) (ap (λ i. entry_line i x) c.count-index.ensures ∙ ap (entry_line c.args.machine.now.count) (sym same)))
+          (c.add_entry.ensures.items ∙ ap (λ text. c.args.output.now.writer.gathered.items ++ text) (ap (λ i. entry_line i (entry_of c.args.actor c.args.op.now x.outcome)) c.count-index.ensures))
           e.ok;
     }

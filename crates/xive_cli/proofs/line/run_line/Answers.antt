@@ -30,26 +30,10 @@ make_entry-requires-clause-count g c =
     let next : MakesNext w c.loop-op.machine c.in-Some.op l.0 l.1 r.0 = record {
       next = sym (n.value c.args.work l.0 l.1 r.0 r.2 r.1.stands last);
       actor = subst (λ (b : Board). c.args.actor < b.limits.actors) (sym i.board) c.requires.work.actor_is;
-      valid_op = subst (λ (b : Board). valid b c.in-Some.op ≡ true) (sym i.board) (n.valid c.args.machine.now.tables.board i.steps);
+      valid_op = subst (λ (b : Board). valid b c.in-Some.op ≡ true) (sym i.board) (n.valid c.args.machine.now.fabric.tables.board i.steps);
     } in
     let falls = subst (λ v. Falls c.loop-op.going c.next.new.self v l.0 (r.0 ++ l.1) c.in-Some.op) c.as_ref.ensures.value (n.falls c.args.work l.0 l.1 r.0 r.2 r.1.stands last) in
     omega (arith, i.few, c.requires.room, some_load w c.loop-op.going c.next.new.self c.loop-op.last c.loop-op.machine c.in-Some.op (told c.args.output.now) (told c.loop-op.output) l.0 l.1 r.0 r.1 next falls)
-
-pub returns-in_err-make_entry-clause-few : goal.returns-in_err-make_entry-clause-few
-returns-in_err-make_entry-clause-few g c =
-    let i = c.loop-op.invariant in
-    let n = c.in-Some.ensures {u = tt} in
-    let w : WorkLine = record { actor = c.args.actor; work = c.args.work } in
-    let l = c.requires.legal in
-    let r = i.runs l.0 l.1 l.2 l.3 in
-    let last = subst (IsLast r.0) (sym c.as_ref.ensures.value) r.3 in
-    let next : MakesNext w c.loop-op.machine c.in-Some.op l.0 l.1 r.0 = record {
-      next = sym (n.value c.args.work l.0 l.1 r.0 r.2 r.1.stands last);
-      actor = subst (λ (b : Board). c.args.actor < b.limits.actors) (sym i.board) c.requires.work.actor_is;
-      valid_op = subst (λ (b : Board). valid b c.in-Some.op ≡ true) (sym i.board) (n.valid c.args.machine.now.tables.board i.steps);
-    } in
-    let falls = subst (λ v. Falls c.loop-op.going c.next.new.self v l.0 (r.0 ++ l.1) c.in-Some.op) c.as_ref.ensures.value (n.falls c.args.work l.0 l.1 r.0 r.2 r.1.stands last) in
-    omega (arith, i.few, c.make_entry.ensures.count, some_load w c.loop-op.going c.next.new.self c.loop-op.last c.loop-op.machine c.in-Some.op (told c.args.output.now) (told c.loop-op.output) l.0 l.1 r.0 r.1 next falls)
 
 pub returns-in_err-make_entry-clause-fails : goal.returns-in_err-make_entry-clause-fails
 returns-in_err-make_entry-clause-fails g c = on_err_anyway c.from_residual.result (λ z before st legal.
@@ -61,7 +45,7 @@ returns-in_err-make_entry-clause-fails g c = on_err_anyway c.from_residual.resul
     let next : MakesNext w c.loop-op.machine c.in-Some.op z before r.0 = record {
       next = sym (n.value c.args.work z before r.0 r.2 r.1.stands last);
       actor = subst (λ (b : Board). c.args.actor < b.limits.actors) (sym i.board) c.requires.work.actor_is;
-      valid_op = subst (λ (b : Board). valid b c.in-Some.op ≡ true) (sym i.board) (n.valid c.args.machine.now.tables.board i.steps);
+      valid_op = subst (λ (b : Board). valid b c.in-Some.op ≡ true) (sym i.board) (n.valid c.args.machine.now.fabric.tables.board i.steps);
     } in
     entry_failed w c.loop-op.machine c.make_entry.new.machine c.in-Some.op (told c.args.output.now) (told c.loop-op.output) (told c.make_entry.new.output) z before r.0 i.sink_count r.1 next (c.in_err-make_entry.ensures {u = tt}).fails)
 
@@ -76,7 +60,7 @@ loop-op-smaller g c =
     let next : MakesNext w c.loop-op.machine c.in-Some.op l.0 l.1 r.0 = record {
       next = sym (n.value c.args.work l.0 l.1 r.0 r.2 r.1.stands last);
       actor = subst (λ (b : Board). c.args.actor < b.limits.actors) (sym i.board) c.requires.work.actor_is;
-      valid_op = subst (λ (b : Board). valid b c.in-Some.op ≡ true) (sym i.board) (n.valid c.args.machine.now.tables.board i.steps);
+      valid_op = subst (λ (b : Board). valid b c.in-Some.op ≡ true) (sym i.board) (n.valid c.args.machine.now.fabric.tables.board i.steps);
     } in
     let falls = subst (λ v. Falls c.loop-op.going c.next.new.self v l.0 (r.0 ++ l.1) c.in-Some.op) c.as_ref.ensures.value (n.falls c.args.work l.0 l.1 r.0 r.2 r.1.stands last) in
     load_falls w c.loop-op.going c.next.new.self c.loop-op.last c.loop-op.machine c.make_entry.new.machine c.in-Some.op c.in_ok-make_entry.field-0 (told c.args.output.now) (told c.loop-op.output) (told c.make_entry.new.output) l.0 l.1 r.0 r.1 next (c.in_ok-make_entry.ensures {u = tt}).tells falls
@@ -88,7 +72,7 @@ loop-op-preserved g c =
     let e = c.in_ok-make_entry.ensures {u = tt} in
     let w : WorkLine = record { actor = c.args.actor; work = c.args.work } in
     let actor = subst (λ (b : Board). c.args.actor < b.limits.actors) (sym i.board) c.requires.work.actor_is in
-    let valid_op = subst (λ (b : Board). valid b c.in-Some.op ≡ true) (sym i.board) (n.valid c.args.machine.now.tables.board i.steps) in
+    let valid_op = subst (λ (b : Board). valid b c.in-Some.op ≡ true) (sym i.board) (n.valid c.args.machine.now.fabric.tables.board i.steps) in
     let l = c.requires.legal in
     let r = i.runs l.0 l.1 l.2 l.3 in
     let last = subst (IsLast r.0) (sym c.as_ref.ensures.value) r.3 in
@@ -106,7 +90,7 @@ loop-op-preserved g c =
             n.after c.args.work z before s.0 x s.2 refl,
             refl,
           );
-      steps = c.next.ensures.stays c.args.machine.now.tables.board i.steps;
+      steps = c.next.ensures.stays c.args.machine.now.fabric.tables.board i.steps;
       board = c.make_entry.ensures.board ∙ i.board;
       few = omega (arith, less, c.make_entry.ensures.count, i.few);
       sink = c.make_entry.ensures.sink ∙ i.sink;

@@ -12,8 +12,8 @@ abbrev pub invariant-loop-op : goal.invariant-loop-op
 invariant-loop-op g l = record {
   runs : (z : Start) (before : List Entry) → StandsFor l.fn.machine z before → IsLegal z before →
       (part : List Entry) × RunsPart (record { actor = l.actor; work = l.fn.work }) l.machine (told l.fn.output) (told l.output) z before part × IsAt l.going l.fn.work z before part × IsLast part l.last;
-  steps : HasValidSteps l.fn.machine.tables.board l.going;
-  board : l.machine.tables.board ≡ l.fn.machine.tables.board;
+  steps : HasValidSteps l.fn.machine.fabric.tables.board l.going;
+  board : l.machine.fabric.tables.board ≡ l.fn.machine.fabric.tables.board;
   few : l.machine.count + load l.going l.last (burden_of l.machine) ≤ l.fn.machine.count + load l.fn.work None (burden_of l.fn.machine);
   sink : l.output.sink.ghost_name ≡ l.fn.output.sink.ghost_name;
   sink_count : g.K.Sink.faults l.fn.output.sink.now ≤ g.K.Sink.faults l.output.sink.now;

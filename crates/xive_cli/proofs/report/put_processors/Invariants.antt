@@ -6,7 +6,7 @@ use Rattle.xive_cli.proofs.report.put_processors.Given as goal
 
 abbrev pub invariant-loop-v : goal.invariant-loop-v
 invariant-loop-v g l = record {
-  tells : TellsOf l.machine (λ z h. texts_below (processor_line_of z) l.v) (told l.fn.output) (told l.output);
+  tells : TellsOf l.machine (λ z h. texts_below (processor_line_of z h) l.v) (told l.fn.output) (told l.output);
   sink : l.output.sink.ghost_name ≡ l.fn.output.sink.ghost_name;
   count : g.K.Sink.faults l.fn.output.sink.now ≤ g.K.Sink.faults l.output.sink.now;
 }

@@ -52,7 +52,7 @@ returns-clause-ok g c =
     let t4 : TellsOf c.args.machine.now (λ z h. first_text z h ++ sources_text z h ++ queues_text z h ++ processors_text z h) (told c.args.output.now) (told c.put_processors.new.output) = tells_parts c.args.machine.now (λ z h. first_text z h ++ sources_text z h ++ queues_text z h) processors_text (told c.args.output.now) (told c.put_queues.new.output) (told c.put_processors.new.output) t3 (c.in_ok-put_processors.ensures {u = tt}).ok in
     let t5 : TellsOf c.args.machine.now (λ z h. first_text z h ++ sources_text z h ++ queues_text z h ++ processors_text z h ++ rings_text z h) (told c.args.output.now) (told c.put_rings.new.output) = tells_parts c.args.machine.now (λ z h. first_text z h ++ sources_text z h ++ queues_text z h ++ processors_text z h) rings_text (told c.args.output.now) (told c.put_processors.new.output) (told c.put_rings.new.output) t4 (c.in_ok-put_rings.ensures {u = tt}).ok in
     on_ok_then c.put_last.result (λ (p : TellsOf c.args.machine.now last_text (told c.put_rings.new.output) (told c.put_last.new.output)) h st.
-    let z = start c.args.machine.now.tables.board in
+    let z = start c.args.machine.now.fabric.tables.board in
     subst (λ t. Tells (told c.args.output.now) t (told c.put_last.new.output))
     (sym (last_parts (first_text z h ++ sources_text z h ++ queues_text z h ++ processors_text z h ++ rings_text z h) (flight_line (length (flight z h))) (notices_line (all_outstanding z h)) done_line))
     (tells_parts c.args.machine.now (λ z h. first_text z h ++ sources_text z h ++ queues_text z h ++ processors_text z h ++ rings_text z h) last_text (told c.args.output.now) (told c.put_rings.new.output) (told c.put_last.new.output) t5 p h st)) c.put_last.ensures.ok
@@ -65,7 +65,7 @@ returns-clause-err g c =
     let t4 : TellsOf c.args.machine.now (λ z h. first_text z h ++ sources_text z h ++ queues_text z h ++ processors_text z h) (told c.args.output.now) (told c.put_processors.new.output) = tells_parts c.args.machine.now (λ z h. first_text z h ++ sources_text z h ++ queues_text z h) processors_text (told c.args.output.now) (told c.put_queues.new.output) (told c.put_processors.new.output) t3 (c.in_ok-put_processors.ensures {u = tt}).ok in
     let t5 : TellsOf c.args.machine.now (λ z h. first_text z h ++ sources_text z h ++ queues_text z h ++ processors_text z h ++ rings_text z h) (told c.args.output.now) (told c.put_rings.new.output) = tells_parts c.args.machine.now (λ z h. first_text z h ++ sources_text z h ++ queues_text z h ++ processors_text z h) rings_text (told c.args.output.now) (told c.put_processors.new.output) (told c.put_rings.new.output) t4 (c.in_ok-put_rings.ensures {u = tt}).ok in
     on_err_then c.put_last.result (λ (p : FailsOf c.args.machine.now last_text (told c.put_rings.new.output) (told c.put_last.new.output)) h st.
-    let z = start c.args.machine.now.tables.board in
+    let z = start c.args.machine.now.fabric.tables.board in
     subst (λ t. Fails (told c.args.output.now) t (told c.put_last.new.output))
     (sym (last_parts (first_text z h ++ sources_text z h ++ queues_text z h ++ processors_text z h ++ rings_text z h) (flight_line (length (flight z h))) (notices_line (all_outstanding z h)) done_line))
     (fails_parts c.args.machine.now (λ z h. first_text z h ++ sources_text z h ++ queues_text z h ++ processors_text z h ++ rings_text z h) last_text (told c.args.output.now) (told c.put_rings.new.output) (told c.put_last.new.output) (omega (arith, c.put_end.ensures.count, c.put_sources.ensures.count, c.put_queues.ensures.count, c.put_processors.ensures.count, c.put_rings.ensures.count)) t5 p h st)) c.put_last.ensures.err

@@ -6,7 +6,7 @@ use Rattle.xive_cli.proofs.report.put_rings.Given as goal
 
 abbrev pub invariant-loop-t : goal.invariant-loop-t
 invariant-loop-t g l = record {
-  tells : TellsOf l.machine (λ z h. texts_below (ring_line_of) l.t) (told l.fn.output) (told l.output);
+  tells : TellsOf l.machine (λ z h. texts_below (ring_line_of z h) l.t) (told l.fn.output) (told l.output);
   sink : l.output.sink.ghost_name ≡ l.fn.output.sink.ghost_name;
   count : g.K.Sink.faults l.fn.output.sink.now ≤ g.K.Sink.faults l.output.sink.now;
 }

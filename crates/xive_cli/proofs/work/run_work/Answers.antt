@@ -4,6 +4,7 @@ use Rattle.account.specs.Account.{header_text}
 use Rattle.board_script.specs.declared.lines.Said.TheVariants as said
 use Rattle.board_script.specs.Script.{WorkLine}
 use Rattle.board_script.specs.Stage.{stage_after, board_after}
+use Rattle.machine.proofs.Burdens.{burden_of-none}
 use Rattle.board_script.proofs.WorkLines.{few}
 use Rattle.machine.specs.Machine.{burden_of}
 use Rattle.xive_cli.specs.declared.stop.Stop.TheVariants.{WriteFault}
@@ -33,7 +34,7 @@ lines-init g c =
       stage = c.requires.stage;
       board = refl;
       machine = c.requires.board;
-      few = omega (arith, c.requires.count);
+      few = omega (arith, c.requires.count, burden_of-none c.args.machine.now c.args.input.now.parser.board c.requires.stands);
       source = refl;
       sink = c.put_header.ensures.sink;
       source_count = omega arith;
@@ -64,7 +65,7 @@ lines-preserved-in-Continue-branch-3 g c =
       stage = says.next.stage ∙ ap (λ s. stage_after s it) i.stage;
       board = says.next.board ∙ ap (λ s. board_after s it c.lines.input.parser.board) i.stage ∙ i.board;
       machine = c.run_line.ensures.board ∙ i.machine;
-      few = omega (arith, i.few, c.run_line.ensures.few, says.next.rises, few c.in-Work.work (burden_of c.lines.machine));
+      few = omega (arith, i.few, r.few, says.next.rises, few c.in-Work.work (burden_of c.lines.machine));
       source = c.read_line.ensures.source ∙ i.source;
       sink = c.run_line.ensures.sink ∙ c.read_line.ensures.sink ∙ i.sink;
       source_count = omega (arith, i.source_count, c.read_line.ensures.source_count);

@@ -1,6 +1,7 @@
-use Rattle.std.proofs.Common.{◌≡◌, ◌≤◌, ◌*◌, ◌-◌}
+use Rattle.std.proofs.Common.{◌≡◌, ◌≤◌, ◌+◌, ◌*◌, ◌-◌}
 use Rattle.xv_base.specs.Limits.{byte_limit}
 use Rattle.board_script.specs.declared.stage.Stage.TheVariants.{Work}
+use Rattle.machine.specs.Machine.{burden_of}
 use Rattle.xive_cli.specs.Input.{unread}
 use Rattle.xive_cli.specs.Output.{told}
 use Rattle.xive_cli.specs.Work.{RunsSoFar}
@@ -11,8 +12,8 @@ invariant-lines g l = record {
   runs : RunsSoFar l.fn.input.parser.board (unread l.fn.input) (told l.fn.output) l.machine (unread l.input) (told l.output);
   stage : l.input.parser.stage ≡ Work;
   board : l.input.parser.board ≡ l.fn.input.parser.board;
-  machine : l.machine.tables.board ≡ l.fn.input.parser.board;
-  few : l.machine.count ≤ 2 * l.input.reader.given;
+  machine : l.machine.fabric.tables.board ≡ l.fn.input.parser.board;
+  few : l.machine.count + burden_of l.machine ≤ 10 * l.input.reader.given;
   source : l.input.source.ghost_name ≡ l.fn.input.source.ghost_name;
   sink : l.output.sink.ghost_name ≡ l.fn.output.sink.ghost_name;
   source_count : g.S.Source.faults l.fn.input.source.now ≤ g.S.Source.faults l.input.source.now;
