@@ -1,5 +1,6 @@
 #!/usr/bin/env python3
-"""Writes a random script that reaches far: queues that wrap, readers that lag, edges of memory, lines that are wrong.
+"""Writes a random script that reaches far: queues that wrap, readers that lag, edges of memory, processors that are
+notified wherever their context is, moves out of turn, lines that are wrong.
 
     fuzz/generate.py SEED       the script of a seed, always the same one
     fuzz/generate.py deep       one long script: a queue of 2 MiB wraps, and is read across the wrap
@@ -23,14 +24,22 @@ ODD_WORDS = """18446744073709551615 18446744073709551616 99999999999999999999 00
     - -- v e vqnbe qv vv vqs 00 01 11 000 2 3 4 7 8 9 12 13 16 21 24 0xff 0x100 255 256 0xffff 0x10000 65536 0xffffffff
     0x100000000 level end go # 0# trigger""".split()
 ODD_LINES = """start; end 0; END; end now; go; board 1; sources 1; unclaimed 0 0; level 0 0; unconnected 0 0; 0; 0 end
-    0 go; 0 take 0; 0 push 0 0; 0 cppr 0 4; 0 ack 0; 0 sync 0; 0 hcall 0x3b8 1 0 0 0x1000 12; 0 hcall 0x3a8 0 0 0 0 0
+    0 go; 0 hcall 0x3b8 1 0 0 0x1000 12; 0 hcall 0x3a8 0 0 0 0 0; 0 unconnected 0 0; 0 hcall 0x3cc 0 0 0 0 0
     0 hcall 0x3ac 0 0 0 0; 0 hcall 0x3ac 0 0 0 0 0 0; 0 hcall 0x300003ac 0 0 0 0 0; 0 Read 0; 0 read; 0 read 0 0
     0 peek; 0 peek 0 0; 0 zero 0; 0 zero 0 0 0; 0 reads 0; 0 peak 0; read 0; peek 0; zero 0 4; 0 read 0x; 0 peek -4
     0 zero 0 -4; 0 peek 18446744073709551616; 0 zero 0 0x10000000000000000; 0 read 4294967296
     0 endset 0 vqe 0 0 0 12 7 0; 0 endset 0 vu 0 0 0 0 0 0; 0 endset 0 vs 0 0 0 0 0 0; 0 endset 0 v 0 0 0 0 7 0
     0 endset 0 v 0 0 0 0 0 1; 0 endset 0 q 0 0 0 12 0 0; 0 endset 0 v 0 0 0x1000 0 0 0; 0 endset 0 v 0 0 0 12 0 0
     0 endset 0 - 0 1 0 0 0 0; 0 endset 0 - 0 0 0x1000 0 0 0; 0 endset 0 vq 0 0 0 4294967308 0 0; 0 raise 0; 0 lower 0
-    0 endset 0 v 0 8 0 0 0 0; 0 assert 0; 0 init 0 1; 0 load 0 1 0; 0 endload 0 2 0; 0 peek 000000000000000000000"""
+    0 endset 0 v 0 8 0 0 0 0; 0 assert 0; 0 init 0 1; 0 load 0 1 0; 0 endload 0 2 0; 0 peek 000000000000000000000
+    0 tload 0 2 0x810 2; 0 tload 0 1 0x818 4; 0 tload 0 2 0x10 8; 0 tload 0 0 0x10 8; 0 tstore 0 2 0x11 1 4
+    0 tstore 0 1 0x18 4 0x80000400; 0 tstore 0 2 0x812 1 0; 0 quiet 0; 0 sync 0; 0 drain; 0 reset; 0 migrate; 0 start
+    0 kvmset 3 0 0; 0 kvmeq 0 1 12 0x1000 1 0; 0 kvmget 4 0; 0 vpget 0; 0 vpset 0 0xff 0; 0 escalate 0; 0 present 0 0
+    0 settle 0; 0 settle 1; settle; 0 Settle; 0 settles; 0 take; 0 take 0 0; 0 take -1; 0 take 4294967296; take 0
+    0 take 0x100000000; 0 takes 0; 0 connect; 0 connect 0 0; 0 disconnect 0; 0 restore 0; 0 restore 0 0 0; 0 restore
+    0 save; 0 save 0 0; 0 push 0; 0 push 0 0 0; 0 push 0 0x80000400; 0 push 0 0x400; 0 push; 0 pull; 0 pull 0 0
+    0 pull 0 0 0; 0 cppr 0; 0 cppr 0 0 0; 0 cppr 0 0x100; 0 cppr 0 256; 0 cppr 0 -1; 0 ack; 0 ack 0 0; 0 ack 0 0 0
+    0 inject 0; 0 inject 0 0 0; 0 inject 0 256; 0 inject 0 0x100; 0 regs; 0 regs 0 0; 0 reg 0; 0 ring 0; 0 ipb 0 0"""
 ODD_LINES = [line.strip() for line in ODD_LINES.replace("\n", ";").split(";")]
 
 
@@ -91,21 +100,24 @@ class Script:
 
     # -- the board
 
-    def header(self, fewest_mib=0):
+    def header(self, fewest_mib=0, crowd=False):
+        """With a crowd there are more processors and threads, and more often some that aren't connected."""
         pick = self.random
         sources = pick.choice((1, 2, 2, 3, 4))
+        processors = pick.choice((1, 2, 2, 2, 3, 3, 4, 5, 64) if crowd else (1, 1, 2))
         mib = pick.choice((0,) * 2 + (1,) * 12 + (2,) * 8 + (3, 16, 17, 64))
         self.say("board", 1)
         self.say("sources", sources)
-        self.say("processors", pick.choice((1, 1, 2)))
-        self.say("threads", pick.choice((1, 2)))
+        self.say("processors", processors)
+        self.say("threads", pick.choice((1, 1, 2, 2, 3, 4, 32) if crowd else (1, 2)))
         self.say("ram", max(fewest_mib, mib))
         self.say("actors", pick.choice((1, 2, 3)))
         self.say("esb", pick.choice((1, 2)), pick.choice((0, 1)))
-        for name, chances in (("level", (0, 0, 1, 1, 2)), ("unclaimed", (0, 0, 0, 0, 0, 1))):
+        for name, numbers, chances in (("level", sources, (0, 0, 1, 1, 2)), ("unclaimed", sources, (0, 0, 0, 0, 0, 1)),
+                                       ("unconnected", processors, (0, 0, 1, 1, 2) if crowd else (0,) * 15 + (1,))):
             for _ in range(pick.choice(chances)):
-                first = pick.randrange(sources)
-                self.say(name, first, pick.randrange(first, sources))
+                first = pick.randrange(numbers)
+                self.say(name, first, pick.choice((first, pick.randrange(first, numbers))))
         self.say("go")
         self.learn()
 
@@ -114,11 +126,15 @@ class Script:
         pick = self.random
         self.machine = self.run.machine
         self.count = len(self.machine.sources)
-        self.processors = self.machine.processors
+        self.processors = range(len(self.machine.processors))
+        self.threads = range(len(self.machine.threads))
         self.actors = self.machine.counts["actors"]
         self.size = self.machine.memory.size
         self.ends = range(len(self.machine.ends))
         self.few = pick.sample(self.ends, pick.choice((1, 2, 2, 3)))  # the ENDs that are used most
+        most = pick.choice((1, 2, 2, 3, 4))
+        self.crew = pick.sample(self.processors, min(len(self.processors), most))  # the processors that are used most
+        self.seats = pick.sample(self.threads, min(len(self.threads), pick.choice((1, 1, 2, 3))))  # likewise
         self.home = pick.randrange(max(1, self.size >> 12)) << 12  # where most queues are
 
     # -- what stands where
@@ -132,6 +148,12 @@ class Script:
     def target(self):
         """An END to which a source can be assigned."""
         return self.random.choice([e for e in self.few if e % 8 < 7] or [0])
+
+    def processor(self):
+        return self.random.choice(self.crew if self.random.randrange(10) else self.processors)
+
+    def thread(self):
+        return self.random.choice(self.seats if self.random.randrange(10) else self.threads)
 
     def queues(self):
         return [end for end in self.machine.ends if "q" in end.flags]
@@ -167,7 +189,7 @@ class Script:
         flags = flags or pick.choice(("vq",) * 8 + ("vqb",) * 4 + ("vqn", "vqnb", "vqn", "v", "vn", "vb", "-", "-"))
         if flags == "-":
             return self.work("endset", e, flags, 0, 0, 0, 0, 0, 0)
-        target, priority = pick.randrange(self.processors), pick.randrange(8)
+        target, priority = self.processor(), pick.randrange(8)
         if "q" not in flags or self.size == 0:
             return self.work("endset", e, flags.replace("q", ""), target, priority, 0, 0, 0, 0)
         shift = shift or pick.choice((12,) * 14 + (16,) * 4 + (21, 24))
@@ -190,11 +212,14 @@ class Script:
         if odd == 0:
             priority = pick.choice((0xff, 0xff, 0xff, 7, 7, 8, 0x100, 0x1ff, TOP - 1, 1 << 32))
         elif odd == 1:
-            target = pick.choice((self.processors, self.processors - 1, 1 << 32, 1 << 61, TOP - 1))
+            most = self.processors[-1]
+            target = pick.choice((most + 1, most, 1 << 32, (1 << 32) + target, 1 << 61, TOP - 1))
         elif odd == 2:
             flags = pick.choice((4, 5, 6, 1 << 32, TOP - 1))
         elif odd == 3:
             s = pick.choice((self.count, self.count - 1, 1 << 32, TOP - 1))
+        elif odd == 4:
+            target = pick.choice([v for v in self.processors if not self.machine.processors[v].connected] or [target])
         self.work("hcall", 0x3ac, flags, s, target, priority, payload)
         if priority == 0xff and pick.randrange(2):
             self.work("hcall", 0x3ac, 0, s, target, e % 8, payload)  # no longer masked; the payload stays 0
@@ -259,6 +284,60 @@ class Script:
         """Gives an END its state back, so that it presents again."""
         self.work("endload", self.end(), 0, 0xc00)
 
+    # -- lines on processors and threads
+
+    def notify(self):
+        """An event for an END, which is often told before whom to notify, and how; its message may be taken."""
+        pick = self.random
+        if pick.randrange(2):
+            self.configure(self.end(), pick.choice(("vnb",) * 4 + ("vn", "vn", "vb", "v", "vqnb")))
+        self.event()
+        if pick.randrange(2):
+            self.take()
+
+    def take(self):
+        """Mostly the first message, else one in the middle, or none."""
+        pick = self.random
+        many = len(self.machine.flight)
+        if pick.randrange(8) == 0:
+            return self.work("settle")
+        self.work("take", pick.choice((0, 0, 0, 0, many >> 1, many - 1, pick.randrange(many + 1)) if many else (
+            0, 0, 0, 1, 4095, (1 << 32) - 1)))
+
+    def move(self):
+        """The move that a processor can make, mostly."""
+        pick = self.random
+        v = self.processor()
+        if pick.randrange(6) == 0 or not self.machine.processors[v].connected:
+            return self.any_move()
+        if self.machine.processors[v].phase != "on" or pick.randrange(2):
+            self.move_on(v)
+
+    def move_on(self, v):
+        processor = self.machine.processors[v]
+        free = [t for t in self.threads if self.machine.threads[t].user is None]
+        t = self.random.choice([t for t in self.seats if t in free] or free or [0])
+        self.work(*{"saved": ("restore", v, t), "restored": ("push", processor.thread, v),
+                    "on": ("pull", processor.thread), "pulled": ("save", v)}[processor.phase])
+
+    def any_move(self):
+        """A move that may be out of turn; who is connected is so for good, so that is rare."""
+        v, t = self.processor(), self.thread()
+        lines = ("restore", v, t), ("push", t, v), ("pull", t), ("save", v)
+        self.work(*self.random.choice(lines * 4 + (("connect", v),)))
+
+    def ring(self):
+        """What a guest does on a thread, mostly on one that a processor is on."""
+        pick = self.random
+        on = [processor.thread for processor in self.machine.processors if processor.phase == "on"]
+        if not on and pick.randrange(4):
+            return self.move()
+        t = pick.choice(on) if on and pick.randrange(8) else self.thread()
+        value = pick.choice((*[0xff] * 6, 8, 9, 0x7f, 0x80, 0xfe, pick.randrange(256), *range(8)))
+        priority = pick.choice((*range(8), *range(8), 8, 9, 15, 16, 31, 32, 64, 0x80, 0xff, pick.randrange(256)))
+        lines = (("cppr", t, value), 3), (("ack", t), 4), (("inject", t, priority), 3), (("regs", t), 3)
+        self.work(*self.choose(lines))
+
     def raw(self):
         """A line of a source, whatever its pair is."""
         pick = self.random
@@ -271,7 +350,8 @@ class Script:
 
     def any_line(self):
         lines = ((self.event, 29), (self.read, 25), (self.raw, 8), (self.peek, 8), (self.zero, 6), (self.assign, 5),
-                 (self.configure, 5), (self.access, 8), (self.reopen, 2), (self.remark, 4))
+                 (self.configure, 5), (self.access, 8), (self.reopen, 2), (self.move, 4), (self.take, 3),
+                 (self.ring, 3), (self.remark, 4))
         self.choose(lines)()
 
     def choose(self, weighted):
@@ -313,7 +393,7 @@ class Script:
                 if end.written != before:
                     break
             else:
-                if self.machine.flight == 4096 and pick.randrange(40) == 0:
+                if len(self.machine.flight) == 4096 and pick.randrange(40) == 0:
                     return
                 if pick.randrange(3) == 0:
                     self.work("hcall", 0x3ac, 2, pick.choice(sources), e // 8, e % 8, i)
@@ -333,6 +413,8 @@ class Script:
         sources = [s for s in range(self.count) if self.machine.sources[s].valid][:pick.choice((1, 1, 2, 4))]
         if not sources:
             return self.mix(100)
+        if not self.machine.processors[e // 8].connected:
+            self.work("connect", e // 8)
         if pick.randrange(6) or "q" not in self.machine.ends[e].flags:
             self.configure(e, flags, shift)
         if "q" in self.machine.ends[e].flags and pick.randrange(3):
@@ -410,7 +492,89 @@ class Script:
                 self.read(e)
             self.mix(pick.randrange(6))
 
+    def crew_up(self):
+        """ENDs that notify the processors that are used most, mostly, and sources for them."""
+        pick = self.random
+        connected = [v for v in self.crew if self.machine.processors[v].connected]
+        if not connected:
+            connected = self.crew[:1]
+            self.work("connect", self.crew[0])
+        self.few = sorted({8 * pick.choice(connected) + pick.randrange(7) for _ in range(4)})
+        for e in self.few:
+            self.configure(e, pick.choice(("vnb", "vnb", "vn", "vb")))
+        for s in range(self.count):
+            self.assign(s)
+            self.switch_on(s)
+
+    def contexts(self):
+        """Moves in and out of turn, notifications, and what a guest does on its thread."""
+        self.header(crowd=True)
+        self.crew_up()
+        weights = self.random.choice(((6, 4, 2, 8), (6, 6, 2, 4), (2, 6, 2, 8), (9, 3, 3, 3)))
+        for _ in range(self.random.choice((20, 60, 60, 200))):
+            self.choose(tuple(zip((self.move, self.notify, self.take, self.ring), weights)))()
+        self.mix(self.random.choice((0, 10)))
+
+    def windows(self):
+        """Rounds of moves, with notifications wherever the context is, and then acknowledgements of all of them."""
+        self.header(crowd=True)
+        self.crew_up()
+        pick = self.random
+        for _ in range(pick.choice((2, 5, 12))):
+            v, t = self.processor(), self.thread()
+            calm = pick.randrange(3)  # nothing else moves
+            for words in ("restore", v, t), ("push", t, v), ("cppr", t, 0xff), ("pull", t), ("save", v):
+                self.work(*words)
+                for _ in range(pick.randrange(3)):
+                    self.notify()
+                if words[0] == "cppr":
+                    for _ in range(pick.choice((0, 0, 2, 9, 20))):
+                        self.ring()
+                elif pick.randrange(3) == 0:
+                    self.work("regs", t)
+                if not calm:
+                    self.any_move()
+        for v in self.crew:
+            for _ in range(3):
+                if self.machine.processors[v].phase != "on":
+                    self.move_on(v)
+            if self.machine.processors[v].phase == "on":
+                t = self.machine.processors[v].thread
+                for _ in range(pick.choice((1, 9))):
+                    self.work("ack", t)
+                    self.work("cppr", t, 0xff)
+
+    def drained_bus(self):
+        """A bus that is full, and messages taken from it so that routes go on."""
+        self.header(crowd=True)
+        self.crew_up()
+        pick = self.random
+        for e in self.few:
+            self.configure(e, pick.choice(("vnb", "vn")))
+        s = pick.choice([s for s in range(self.count) if self.machine.sources[s].valid] or [0])
+        self.plain = True
+        for _ in range(4100):
+            self.event(s)
+        for _ in range(pick.choice((3, 30))):
+            self.choose(((self.take, 2), (self.event, 4), (self.move, 1), (self.ring, 1)))()
+        if pick.randrange(2):
+            self.work("settle")
+        self.mix(10)
+
     # -- scenes with lines that are wrong
+
+    def wrong_number(self):
+        """A number of a processor, a thread, a message or a byte at the end of its range, or beyond it."""
+        pick = self.random
+        v, t = len(self.processors), len(self.threads)
+        name, *limits = pick.choice((("connect", v), ("restore", v, t), ("save", v), ("push", t, v), ("pull", t),
+                                     ("take", 1 << 32), ("cppr", t, 256), ("ack", t), ("inject", t, 256), ("regs", t)))
+        numbers = [pick.randrange(limit) for limit in limits]
+        at = pick.randrange(len(limits))
+        limit = limits[at]
+        numbers[at] = pick.choice((limit - 1, limit, limit, limit, limit + 1, limit << 1, (1 << 32) + numbers[at],
+                                   TOP - 1))
+        self.work(name, *numbers)
 
     def wrong_queue(self):
         """Behind the end of memory, or not aligned, or of a length that no queue has."""
@@ -445,7 +609,8 @@ class Script:
         elif what < 8:
             words[at] = pick.choice(ODD_WORDS)
         elif what == 8:
-            limits = self.count, len(self.ends), self.actors, self.processors, self.machine.pages, self.size
+            limits = (self.count, len(self.ends), self.actors, len(self.processors), len(self.threads),
+                      self.machine.pages, self.size)
             words[at] = str(max(0, pick.choice(limits) - pick.choice((0, 0, 1, 0x1000))))
         elif what == 9:
             words[at] = pick.choice((words[at].upper(), words[at] + "0", words[at][:-1], words[at].zfill(21)))
@@ -482,15 +647,15 @@ class Script:
         self.mix(pick.choice((0, 3, 20)))
         self.plain = True
         for _ in range(pick.choice((1, 1, 2, 4))):
-            self.choose(((self.odd_line, 4), (self.wrong_queue, 4), (self.spoiled_line, 4)))()
+            self.choose(((self.odd_line, 9), (self.wrong_queue, 4), (self.wrong_number, 3), (self.spoiled_line, 4)))()
         self.mix(4)
 
     def refused_header(self):
         pick = self.random
-        self.header()
+        self.header(crowd=pick.randrange(3) == 0)
         lines = self.lines[:]
         at, other = pick.randrange(len(lines)), pick.randrange(len(lines))
-        what = pick.choice((0, 1, 2, 2, 3, 4, 5, 6, 7, 7, 8))
+        what = pick.choice((0, 1, 2, 2, 3, 4, 5, 6, 7, 7, 7, 8, 8, 9))
         if what == 0:
             del lines[at]
         elif what == 1:
@@ -500,7 +665,7 @@ class Script:
         elif what == 3:
             lines[7:7] = [b"level 0 0"] * pick.choice((15, 16, 17))
         elif what == 4:
-            lines[-1:-1] = [b"unclaimed 0 0"] * pick.choice((15, 16, 17))
+            lines[-1:-1] = [pick.choice((b"unclaimed 0 0", b"unconnected 0 0"))] * pick.choice((15, 16, 17))
         elif what == 5:
             lines.insert(at, pick.choice(lines + [pick.choice(ODD_LINES).encode()]))
         elif what == 6:
@@ -508,8 +673,14 @@ class Script:
             most = (1, 8192, 64, 32, 64, 16)[at]
             lines[at] = b"%s %d" % (lines[at].split()[0], pick.choice((0, most, most + 1)))
         elif what == 7:
-            lines[-1:-1] = pick.choice(([b"level 1 0"], [b"unclaimed 1 0"], [b"level 0 %d" % self.count], [b"level 0"],
-                                        [b"esb 2 2"], [b"end"], [b"unclaimed 0 0", b"level 0 0"], [b"level 0 0"]))
+            most = len(self.processors)
+            lines.insert(-1, pick.choice((
+                b"level 1 0", b"unclaimed 1 0", b"level 0 %d" % self.count, b"level 0", b"level 0 0", b"esb 2 2",
+                b"end", b"unconnected 1 0", b"unconnected 0", b"unconnected 0 0 0", b"unconnected %d %d" % (most, most),
+                b"unconnected 0 %d" % most, b"unconnected 0 %d" % (most - 1))))
+        elif what == 8:
+            kinds = b"level", b"unclaimed", b"unconnected"
+            lines[-1:-1] = [kind + b" 0 0" for kind in pick.sample(kinds, pick.choice((2, 2, 2, 3)))]
         else:
             lines[at] = self.spoil(lines[at])
         self.lines, self.run, self.broken = [], Run(), False
@@ -524,8 +695,8 @@ class Script:
 
     def bytes(self):
         self.choose(((self.wrapping, 20), (self.wrapping_64_kib, 3), (self.full_bus, 4), (self.mixed, 10),
-                     (self.edges, 10), (self.one_page, 7), (self.reconfigured, 7), (self.refused, 50),
-                     (self.refused_header, 25)))()
+                     (self.edges, 10), (self.one_page, 7), (self.reconfigured, 7), (self.contexts, 40),
+                     (self.windows, 15), (self.drained_bus, 2), (self.refused, 110), (self.refused_header, 45)))()
         return b"\n".join(self.lines) + self.random.choice((
             b"", b"\n", b"\nend", b"\nend\n", b"\nend\n", b"\n\n# the end\n  \n",
             b"\n  end \nread 0\n\xff\n" + b"#" * 300 + b"\n0 read 0\n"))

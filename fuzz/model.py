@@ -133,11 +133,13 @@ class Source:
 
 class End:
     def __init__(self):
-        self.configure("-", 0, 0)
+        self.configure("-", 0, 0, 0, 0)
 
-    def configure(self, flags, address, shift):
+    def configure(self, flags, v, priority, address, shift):
         """Both states are 00 with v, else 01; nothing was written since, and nothing taken."""
         self.flags = flags
+        self.v = v
+        self.priority = priority
         self.address = address
         self.shift = shift
         self.states = ["00", "00"] if "v" in flags else ["01", "01"]
@@ -172,6 +174,65 @@ class End:
         return f"item {word & 0x7fffffff:#x}"
 
 
+# ---- processors and threads ------------------------------------------------------------------------------------------
+
+
+def pending_bit(priority):
+    return 0x80 >> priority
+
+
+class Processor:
+    """A virtual processor. It starts saved, with CPPR 0 and nothing pending."""
+
+    def __init__(self, connected):
+        self.connected = connected
+        self.phase = "saved"
+        self.thread = None  # it has one exactly where it isn't saved
+        self.cppr = 0       # this and IPB are what is saved of its context, and 0 where it isn't saved
+        self.ipb = 0
+        self.backlog = 0
+
+    def where(self):
+        return self.phase if self.thread is None else f"{self.phase} {self.thread}"
+
+    def goes(self, phase, thread):
+        self.phase, self.thread = phase, thread
+
+
+class Thread:
+    """A hardware thread with its ring. While it is free, its registers are 0 but for PIPR."""
+
+    VALID = 1 << 31  # the top bit of CAM
+
+    def __init__(self):
+        self.clear()
+
+    def clear(self):
+        self.user = None  # the number of the processor whose context is here
+        self.cppr = 0
+        self.ipb = 0
+        self.cam = 0
+
+    def pipr(self):
+        """The most urgent of the priorities that are pending."""
+        return next((priority for priority in range(8) if self.ipb & pending_bit(priority)), 0xff)
+
+    def nsr(self):
+        return 0x80 if self.cam & self.VALID and self.pipr() < self.cppr else 0
+
+    def registers(self):
+        """The first eight bytes of the ring."""
+        return bytes((self.nsr(), self.cppr, self.ipb, 0xff, 0xff, 0, 0xff, self.pipr()))
+
+    def acknowledge(self):
+        """NSR as it was and CPPR as it is then, in two bytes."""
+        nsr = self.nsr()
+        if nsr:
+            self.cppr = self.pipr()
+            self.ipb &= ~pending_bit(self.cppr)
+        return nsr << 8 | self.cppr
+
+
 # ---- the header ------------------------------------------------------------------------------------------------------
 
 
@@ -186,6 +247,7 @@ class Board:
         self.esb = None
         self.level = []
         self.unclaimed = []
+        self.unconnected = []
 
     def feed(self, words):
         """True where this was the go line, so that the header is whole."""
@@ -196,10 +258,12 @@ class Board:
         elif self.esb is None:
             self.expect(words, "esb", 2)
             self.esb = within(words[1], 1, 2), within(words[2], 0, 1)
-        elif words[0] == "level" and not self.unclaimed:
-            self.range(words, self.level)
-        elif words[0] == "unclaimed":
-            self.range(words, self.unclaimed)
+        elif words[0] == "level" and not self.unclaimed and not self.unconnected:
+            self.range(words, self.level, "sources")
+        elif words[0] == "unclaimed" and not self.unconnected:
+            self.range(words, self.unclaimed, "sources")
+        elif words[0] == "unconnected":
+            self.range(words, self.unconnected, "processors")
         else:
             self.expect(words, "go", 0)
             return True
@@ -210,10 +274,10 @@ class Board:
         if words[0] != name or len(words) != many + 1:
             raise Refused
 
-    def range(self, words, ranges):
+    def range(self, words, ranges, of):
         if len(ranges) == MOST_RANGES or len(words) != 3:
             raise Refused
-        last = self.counts["sources"] - 1
+        last = self.counts[of] - 1
         first = within(words[1], 0, last)
         ranges.append((first, within(words[2], first, last)))
 
@@ -222,17 +286,24 @@ class Board:
         lines.append("esb {} {}".format(*self.esb))
         lines += ["level {} {}".format(*both) for both in self.level]
         lines += ["unclaimed {} {}".format(*both) for both in self.unclaimed]
+        lines += ["unconnected {} {}".format(*both) for both in self.unconnected]
         return lines + ["go"]
 
 
 # ---- the machine -----------------------------------------------------------------------------------------------------
 
-# The work lines without their ACTOR; N is any number. `line_NAME` of the machine does what a line says.
+# The work lines without their ACTOR; N is any number, and I one of 32 bits. `line_NAME` of the machine does what a line
+# says.
 LINES = {line.split()[0]: line.split()[1:] for line in (
     "trigger S", "eoi S", "get S", "set S PQ", "raise S", "lower S", "init S A", "load S PAGE OFFSET",
     "store S PAGE OFFSET", "route S", "fire S", "finish S", "assert S", "hcall N N N N N N",
     "endset E FLAGS V N N N N N", "endload E END-PAGE OFFSET", "endstore E END-PAGE OFFSET", "read E", "peek N",
-    "zero N N")}
+    "zero N N", "connect V", "restore V T", "push T V", "pull T", "save V", "take I", "settle", "cppr T BYTE", "ack T",
+    "inject T BYTE", "regs T")}
+
+
+def is_among(n, ranges):
+    return any(first <= n <= last for first, last in ranges)
 
 
 class Machine:
@@ -240,17 +311,18 @@ class Machine:
         self.out = out
         self.counts = board.counts
         self.pages, self.store_eoi = board.esb
-        self.processors = board.counts["processors"]
         self.memory = Memory(board.counts["ram"])
-        self.sources = [Source(any(a <= s <= b for a, b in board.level),
-                               not any(a <= s <= b for a, b in board.unclaimed))
+        self.sources = [Source(is_among(s, board.level), not is_among(s, board.unclaimed))
                         for s in range(board.counts["sources"])]
-        self.ends = [End() for _ in range(8 * self.processors)]
-        self.flight = 0
+        self.processors = [Processor(not is_among(v, board.unconnected)) for v in range(board.counts["processors"])]
+        self.threads = [Thread() for _ in range(board.counts["threads"])]
+        self.ends = [End() for _ in range(8 * len(self.processors))]
+        self.flight = []  # of each message the processor, the priority and whether it has b, in the order made
         self.count = 0
         self.actor = 0
-        self.most = {"S": len(self.sources) - 1, "E": len(self.ends) - 1, "V": self.processors - 1, "A": 1,
-                     "PAGE": self.pages - 1, "END-PAGE": 1, "OFFSET": 0xffff, "N": (1 << 64) - 1}
+        self.most = {"S": len(self.sources) - 1, "E": len(self.ends) - 1, "V": len(self.processors) - 1,
+                     "T": len(self.threads) - 1, "A": 1, "BYTE": 0xff, "PAGE": self.pages - 1, "END-PAGE": 1,
+                     "OFFSET": 0xffff, "I": (1 << 32) - 1, "N": (1 << 64) - 1}
 
     def line(self, words):
         """Reads a work line, and makes its entries."""
@@ -371,7 +443,7 @@ class Machine:
             return 0
         if priority > 6:
             return -57
-        if target >= self.processors:
+        if target >= len(self.processors) or not self.processors[target].connected:
             return -56
         source.end = 8 * target + priority
         source.masked = flags & 1 != 0
@@ -384,7 +456,7 @@ class Machine:
             raise Refused
         if priority > 7 or not self.takes_queue(flags, address, shift) or escalation or payload:
             raise Refused
-        self.ends[e].configure(flags, address, shift)
+        self.ends[e].configure(flags, v, priority, address, shift)
         self.entry(f"endset {e} {flags} {v} {priority} {address:#x} {shift} 0 0x0", "ok")
 
     def takes_queue(self, flags, address, shift):
@@ -402,7 +474,7 @@ class Machine:
         """The first of these that holds decides."""
         if source.outstanding() == 0:
             return "no-notice"
-        if self.flight == MOST_IN_FLIGHT:
+        if len(self.flight) == MOST_IN_FLIGHT:
             return "bus-full"
         source.routes += 1
         if not source.valid:
@@ -422,8 +494,125 @@ class Machine:
             end.states[0], notifies = TRIGGER[end.states[0]]
             if not notifies:
                 return wrote + " coalesced"
-        self.flight += 1
+        self.flight.append((end.v, end.priority, "b" in end.flags))
         return wrote + " present"
+
+    # -- messages
+
+    def line_take(self, i):
+        """True where there was such a message."""
+        found = i < len(self.flight)
+        outcome = "no-message"
+        if found:
+            v, priority, kept = self.flight.pop(i)
+            outcome = f"present {v} {priority} {self.present(self.processors[v], pending_bit(priority), kept)}"
+        self.entry(f"take {i}", outcome)
+        return found
+
+    def line_settle(self):
+        while self.line_take(0):
+            pass
+
+    def present(self, processor, bit, kept):
+        """The first of these that holds decides; it is as the processor is at the take."""
+        if not processor.connected:
+            return "no-processor"
+        if processor.phase == "on":
+            self.threads[processor.thread].ipb |= bit
+            return "found"
+        if kept:
+            processor.backlog |= bit
+            return "backlogged"
+        return "lost"
+
+    # -- moves of contexts; of each the first refusal that holds
+
+    def line_connect(self, v):
+        self.processors[v].connected = True
+        self.entry(f"connect {v}", "code 0")
+
+    def line_restore(self, v, t):
+        self.entry(f"restore {v} {t}", self.restore(v, t))
+
+    def restore(self, v, t):
+        processor, thread = self.processors[v], self.threads[t]
+        if not processor.connected:
+            return "refused not-valid"
+        if processor.phase != "saved":
+            return f"refused vp-busy {processor.where()}"
+        if thread.user is not None:
+            return f"refused ring-busy {thread.user}"
+        thread.user, thread.cppr, thread.ipb = v, processor.cppr, processor.ipb
+        processor.cppr = processor.ipb = 0
+        processor.goes("restored", t)
+        return "ok"
+
+    def line_push(self, t, v):
+        self.entry(f"tstore {t} 1 0x18 4 {0x80000400 + v:#x}", self.push(t, v))
+
+    def push(self, t, v):
+        processor, thread = self.processors[v], self.threads[t]
+        if not processor.connected:
+            return "refused not-valid"
+        if (processor.phase, processor.thread) != ("restored", t):
+            return f"refused not-restored {processor.where()}"
+        thread.cam = thread.VALID | 0x400 + v
+        thread.ipb |= processor.backlog
+        processor.backlog = 0
+        processor.goes("on", t)
+        return "ok"
+
+    def line_pull(self, t):
+        self.entry(f"tload {t} 1 0x818 4", self.pull(t))
+
+    def pull(self, t):
+        thread = self.threads[t]
+        if not thread.cam & thread.VALID:
+            return "refused no-context"
+        before = thread.cam
+        thread.cam &= ~thread.VALID
+        self.processors[thread.user].goes("pulled", t)
+        return f"value {before:#x}"
+
+    def line_save(self, v):
+        self.entry(f"save {v}", self.save(self.processors[v]))
+
+    def save(self, processor):
+        if not processor.connected:
+            return "refused not-valid"
+        if processor.phase != "pulled":
+            return f"refused not-pulled {processor.where()}"
+        thread = self.threads[processor.thread]
+        processor.cppr, processor.ipb = thread.cppr, thread.ipb
+        thread.clear()
+        processor.goes("saved", None)
+        return "ok"
+
+    # -- registers; all but their load need a processor that is on the thread
+
+    def on_thread(self, operation, t, does):
+        thread = self.threads[t]
+        self.entry(operation, does(thread) if thread.cam & thread.VALID else "refused no-context")
+
+    def line_cppr(self, t, value):
+        def store(thread):
+            thread.cppr = value if value <= 7 else 0xff
+            return "stored"
+        self.on_thread(f"tstore {t} 2 0x11 1 {value:#x}", t, store)
+
+    def line_ack(self, t):
+        self.on_thread(f"tload {t} 2 0x810 2", t, lambda thread: f"value {thread.acknowledge():#x}")
+
+    def line_inject(self, t, priority):
+        def store(thread):
+            if priority <= 7:
+                thread.ipb |= pending_bit(priority)
+            return "stored"
+        self.on_thread(f"tstore {t} 2 0x812 1 {priority:#x}", t, store)
+
+    def line_regs(self, t):
+        value = int.from_bytes(self.threads[t].registers(), "big")
+        self.entry(f"tload {t} 2 0x10 8", f"value {value:#x}")
 
     # -- memory
 
@@ -454,9 +643,14 @@ class Machine:
         for e, end in enumerate(self.ends):
             if "v" in end.flags:
                 out.append("queue {} {} {} {} {} {}".format(e, end.flags, end.written, end.taken, *end.states))
-        out += [f"processor {v} saved 0x0 0x0 0x0" for v in range(self.processors)]
-        out += [f"ring {t} 0x0 0x0 0x0 0xff 0x0" for t in range(self.counts["threads"])]
-        out.append(f"flight {self.flight}")
+        for v, processor in enumerate(self.processors):
+            if processor.connected:
+                out.append("processor {} {} {:#x} {:#x} {:#x}".format(
+                    v, processor.where(), processor.cppr, processor.ipb, processor.backlog))
+        for t, thread in enumerate(self.threads):
+            out.append("ring {} {:#x} {:#x} {:#x} {:#x} {:#x}".format(
+                t, thread.nsr(), thread.cppr, thread.ipb, thread.pipr(), thread.cam))
+        out.append(f"flight {len(self.flight)}")
         out.append("notices {}".format(sum(source.outstanding() for source in self.sources)))
         return out + ["done"]
 
