@@ -1,8 +1,8 @@
 -- What accesses to a ring answer, and what they leave.
-use Rattle.std.proofs.Common.{arith, not, ◌&&◌, ◌+◌, ◌*◌, ◌/◌, ◌%◌, ◌^◌, ℕ, ◌≡◌, ◌<◌, ◌||◌, ◌==◌, Bool, true, false, if◌then◌else◌, Option, Some, None, List, ◌∷◌, length, refl, sym, ◌∙◌, ap, subst, inl, inr, slice_set}
+use Rattle.std.proofs.Common.{arith, not, ◌&&◌, ◌+◌, ◌*◌, ◌/◌, ◌%◌, ◌^◌, ℕ, ◌≡◌, ◌<◌, ◌||◌, ◌==◌, Bool, true, false, if◌then◌else◌, Option, Some, None, List, ◌∷◌, length, refl, sym, ◌∙◌, ap, subst, slice_set}
 use Rattle.std.specs.Prelude.{nat_lt}
 use Rattle.std.specs.Option.{option_map_or}
-use Rattle.std.proofs.lemmas.Bool.{cases_eq, eq-eqb, ne_eqb}
+use Rattle.std.proofs.lemmas.Bool.{eq-eqb, ne_eqb}
 use Rattle.xv_model.specs.declared.entries.Entry.{Entry}
 use Rattle.xv_model.specs.declared.operations.Access.{Access}
 use Rattle.xv_model.specs.declared.operations.Op.TheVariants as op
@@ -13,11 +13,11 @@ use Rattle.xv_model.specs.declared.outcomes.Outcome.TheVariants as out
 use Rattle.xv_model.specs.declared.tima.RingOp.{RingOp}
 use Rattle.xv_model.specs.declared.tima.RingOp.TheVariants.{Accept, Inject, SetCppr}
 use Rattle.xv_model.specs.account.Start.{Start}
+use Rattle.xv_model.specs.processor.Priorities.{has_priority}
 use Rattle.xv_model.specs.processor.RingOps.{ring_op}
 use Rattle.xv_model.specs.processor.Accesses.{acknowledged, if_on}
 use Rattle.xv_model.specs.processor.Pending.{ring_says}
 use Rattle.xv_model.specs.processor.Registers.{ring}
-use Rattle.xv_model.specs.processor.Priorities.{has_priority}
 use Rattle.thread_context.specs.Ring.{is_valid, notified, nsr_of}
 use Rattle.thread_context.specs.declared.ring.RingRecord.{RingRecord}
 use Rattle.thread_context.specs.Priorities.{least_pending, with_pending}
@@ -25,12 +25,14 @@ use Rattle.thread_context.specs.Rings.{accepted, pending_added, ring_in, with_cp
 use Rattle.thread_context.proofs.Effects.{after_accept, after_add, notified_least}
 use Rattle.presenter.specs.Contexts.{AreFit}
 use Rattle.presenter.proofs.Fitting.{ring_here}
-use Rattle.presenter.proofs.Keeping.{or_false}
+use Rattle.std.proofs.Math.Bool.{and-false, and-true, or-false, or-true}
+use Rattle.fabric_core.proofs.Choices.{eqb_swap}
 use Rattle.fabric_core.specs.Processors.{Parts, StandsFor}
 use Rattle.fabric_core.proofs.OnRing.{access_then}
 use Rattle.fabric_core.proofs.OnThread.{off_by_cam, off_named, on_by_cam}
 use Rattle.fabric_core.proofs.Shown.{ring_says as says_of}
-use Rattle.fabric_core.proofs.Untouched.{access_refused, keeps}
+use Rattle.fabric_core.proofs.Silent.{access_refused}
+use Rattle.fabric_core.proofs.Untouched.{keeps}
 
 -- ---- where no processor is on the thread
 pub refuses : (p : Parts) (z : Start) (h : List Entry) (t : ℕ) (u : Outcome) → StandsFor p z h → AreFit p.vps.vps p.rings → is_valid (ring_in p.rings t).cam ≡ false → out.Refused NoContext ≡ if_on z h t u
@@ -53,14 +55,11 @@ stores_cppr p p' z h t actor page offset size access value s f l valid e same se
 
 -- a priority that became pending, beside those that were
 pub raised : (a : Bool) (p q : ℕ) → (a || (q == p)) ≡ option_map_or (λ b. b) (if p == q then Some true else None) a
-raised a p q = elim (cases_eq p q) [
-  | inl same ↦ ap (λ b. a || b) (eq-eqb q p (sym same)) ∙ or_true a ∙ sym (ap (λ b. option_map_or (λ b. b) (if b then Some true else None) a) (eq-eqb p q same))
-  | inr other ↦ ap (λ b. a || b) (ne_eqb q p (λ same. other (sym same))) ∙ or_false a ∙ sym (ap (λ b. option_map_or (λ b. b) (if b then Some true else None) a) (ne_eqb p q other))
-]
+raised a p q = ap (λ c. a || c) (eqb_swap q p) ∙ by (p == q)
   where
-    or_true : (a : Bool) → (a || true) ≡ true
-    or_true true = refl
-    or_true false = refl
+    by : (c : Bool) → (a || c) ≡ option_map_or (λ b. b) (if c then Some true else None) a
+    by true = or-true a
+    by false = or-false a
 
 added_cppr : (b : Bool) (ipb : ℕ) (r : RingRecord) → (if b then r else with_ipb ipb r).cppr ≡ r.cppr
 added_cppr true ipb r = refl
@@ -86,7 +85,7 @@ acknowledged_by : (r : RingRecord) (t : Bool) → notified r ≡ t → answer_of
 acknowledged_by r true e = rw e refl
 acknowledged_by r false e = rw e refl
 
-pub acknowledges : (p : Parts) (z : Start) (h : List Entry) (t : ℕ) → StandsFor p z h → AreFit p.vps.vps p.rings → answer_of (ring_in p.rings t) ≡ acknowledged (ring z h t)
+acknowledges : (p : Parts) (z : Start) (h : List Entry) (t : ℕ) → StandsFor p z h → AreFit p.vps.vps p.rings → answer_of (ring_in p.rings t) ≡ acknowledged (ring z h t)
 acknowledges p z h t s f =
     let r : RingRecord = ring_in p.rings t in
     let x = says_of p z h s f t in
@@ -102,36 +101,29 @@ answer_taken n l = ap (λ b. if b then Some ((0x80 * 256 + n) % 2 ^ 8) else None
 answer_kept : (n : ℕ) → n < 2 ^ 8 → accepted_by (0 * 256 + n) ≡ None
 answer_kept n l = ap (λ b. if b then Some ((0 * 256 + n) % 2 ^ 8) else None) (ne_eqb ((0 * 256 + n) / 2 ^ 15) 1 (λ e. omega (arith, l, e)))
 
-pub accepts_cppr : (r : RingRecord) → r.cppr < 2 ^ 8 → (accepted r).cppr ≡ option_map_or (λ n. n) (accepted_by (answer_of r)) r.cppr
+accepts_cppr : (r : RingRecord) → r.cppr < 2 ^ 8 → (accepted r).cppr ≡ option_map_or (λ n. n) (accepted_by (answer_of r)) r.cppr
 accepts_cppr r byte = by (notified r) refl
   where
     by : (t : Bool) → notified r ≡ t → (accepted r).cppr ≡ option_map_or (λ n. n) (accepted_by (answer_of r)) r.cppr
     by true e = rw (e, answer_taken (least_pending r.ipb) (omega (arith, notified_least r byte e))) refl
     by false e = rw (e, answer_kept r.cppr byte) refl
 
-and_true : (a : Bool) → (a && true) ≡ a
-and_true true = refl
-and_true false = refl
-
 -- a priority that isn't pending any more
-pub lowered : (a : Bool) (p q : ℕ) → (a && not (q == p)) ≡ option_map_or (λ b. b) (if p == q then Some false else None) a
-lowered a p q = elim (cases_eq p q) [
-  | inl same ↦ ap (λ b. a && not b) (eq-eqb q p (sym same)) ∙ and_false a ∙ sym (ap (λ b. option_map_or (λ b. b) (if b then Some false else None) a) (eq-eqb p q same))
-  | inr other ↦ ap (λ b. a && not b) (ne_eqb q p (λ same. other (sym same))) ∙ and_true a ∙ sym (ap (λ b. option_map_or (λ b. b) (if b then Some false else None) a) (ne_eqb p q other))
-]
+lowered : (a : Bool) (p q : ℕ) → (a && not (q == p)) ≡ option_map_or (λ b. b) (if p == q then Some false else None) a
+lowered a p q = ap (λ c. a && not c) (eqb_swap q p) ∙ by (p == q)
   where
-    and_false : (a : Bool) → (a && false) ≡ false
-    and_false true = refl
-    and_false false = refl
+    by : (c : Bool) → (a && not c) ≡ option_map_or (λ b. b) (if c then Some false else None) a
+    by true = and-false a
+    by false = and-true a
 
-pub accepts_pending : (r : RingRecord) → r.cppr < 2 ^ 8 → (q : ℕ) → q < 8 → has_priority (accepted r).ipb q ≡ option_map_or (λ b. b) (ring_says q Accept (out.Value (answer_of r))) (has_priority r.ipb q)
+accepts_pending : (r : RingRecord) → r.cppr < 2 ^ 8 → (q : ℕ) → q < 8 → has_priority (accepted r).ipb q ≡ option_map_or (λ b. b) (ring_says q Accept (out.Value (answer_of r))) (has_priority r.ipb q)
 accepts_pending r byte q l = after_accept r q byte l ∙ by (notified r) refl
   where
     by : (t : Bool) → notified r ≡ t → (has_priority r.ipb q && not (notified r && (q == least_pending r.ipb))) ≡ option_map_or (λ b. b) (ring_says q Accept (out.Value (answer_of r))) (has_priority r.ipb q)
     by true e = rw (e, answer_taken (least_pending r.ipb) (omega (arith, notified_least r byte e))) (lowered (has_priority r.ipb q) (least_pending r.ipb) q)
-    by false e = rw (e, answer_kept r.cppr byte) (and_true (has_priority r.ipb q))
+    by false e = rw (e, answer_kept r.cppr byte) (and-true (has_priority r.ipb q))
 
-pub accepts : (p p' : Parts) (z : Start) (h : List Entry) (t actor page offset size : ℕ) (access : Access) → StandsFor p z h → AreFit p.vps.vps p.rings → t < length p.rings → (ring_in p.rings t).cppr < 2 ^ 8 →
+accepts : (p p' : Parts) (z : Start) (h : List Entry) (t actor page offset size : ℕ) (access : Access) → StandsFor p z h → AreFit p.vps.vps p.rings → t < length p.rings → (ring_in p.rings t).cppr < 2 ^ 8 →
     is_valid (ring_in p.rings t).cam ≡ true → ring_op page offset size access ≡ Some Accept → p'.vps ≡ p.vps → p'.rings ≡ slice_set p.rings t (accepted (ring_in p.rings t)) →
     StandsFor p' z (record { actor = actor; op = op.Tima t page offset size access; outcome = out.Value (answer_of (ring_in p.rings t)) } ∷ h)
 accepts p p' z h t actor page offset size access s f l byte valid e same set =
@@ -139,7 +131,7 @@ accepts p p' z h t actor page offset size access s f l byte valid e same set =
     access_then p p' z h (on_by_cam p z h s f t valid).0 t actor page offset size access (out.Value (answer_of r)) Accept (accepted r) s (on_by_cam p z h s f t valid).1 l e refl same set
     (accepts_cppr r byte) (accepts_pending r byte)
 
-pub answer_is : (rings rings' : List RingRecord) (t n : ℕ) → t < length rings → rings' ≡ slice_set rings t (accepted (ring_in rings t)) → n ≡ nsr_of (ring_in rings t).cppr (ring_in rings t).ipb (ring_in rings t).cam * 256 + (ring_in rings' t).cppr →
+answer_is : (rings rings' : List RingRecord) (t n : ℕ) → t < length rings → rings' ≡ slice_set rings t (accepted (ring_in rings t)) → n ≡ nsr_of (ring_in rings t).cppr (ring_in rings t).ipb (ring_in rings t).cam * 256 + (ring_in rings' t).cppr →
     n ≡ answer_of (ring_in rings t)
 answer_is rings rings' t n l set e = e ∙ ap (λ (y : RingRecord). nsr_of (ring_in rings t).cppr (ring_in rings t).ipb (ring_in rings t).cam * 256 + y.cppr) (ap (λ rs. ring_in rs t) set ∙ ring_here rings t (accepted (ring_in rings t)) l)
 

@@ -18,7 +18,8 @@ use Rattle.thread_context.specs.Rings.{ring_in}
 use Rattle.presenter.specs.Contexts.{AreFit}
 use Rattle.presenter.proofs.Fitting.{phases_set, same_places, vp_here, vp_there}
 use Rattle.fabric_core.specs.Processors.{IsProcessor, Parts, StandsFor}
-use Rattle.fabric_core.proofs.Untouched.{IsStill, keeps, other_connect, refused_connect, stays, stays_same, untouched}
+use Rattle.fabric_core.proofs.Silent.{connect_still, other_connect, refused_connect, untouched}
+use Rattle.fabric_core.proofs.Untouched.{keeps, stays, stays_same}
 
 -- contexts stay where they are
 pub connects_fit : (vps vps' : List Vp) (rings : List RingRecord) (v servers : ℕ) → AreFit vps rings → v < length vps → (servers ≤ v → vps' ≡ vps) → (v < servers → vps' ≡ slice_set vps v (connected (vp_in vps v))) → AreFit vps' rings
@@ -32,9 +33,6 @@ module _ (p p' : Parts) (z : Start) (h : List Entry) (s : StandsFor p z h) (v ac
   -- the entry of a connection
   abbrev entry : ℤ → Entry
   entry code = record { actor = actor; op = Connect v; outcome = Code code }
-
-  still : (code : ℤ) → IsStill z h v (entry code)
-  still code = record { moves = refl; presents = λ q b. refl; sets_ipb = refl; sets_cppr = refl; says = λ q b. refl; stores = refl }
 
   -- v is connected then
   is_then : (code : ℤ) → code ≡ pos 0 → is_connected z (entry code ∷ h) v ≡ true
@@ -62,7 +60,7 @@ module _ (p p' : Parts) (z : Start) (h : List Entry) (s : StandsFor p z h) (v ac
       phases w = ap (λ vps. (vp_in vps w).phase) e ∙ phases_set p.vps.vps v vp l refl w
 
       here : IsProcessor p'.vps.vps p'.rings z (entry code ∷ h) v
-      here = stays_same p.vps.vps p'.vps.vps p.rings p'.rings z h v (entry code) (still code) (s.each v (subst (λ n. v < n) s.processors l))
+      here = stays_same p.vps.vps p'.vps.vps p.rings p'.rings z h v (entry code) (connect_still z h v v actor code) (s.each v (subst (λ n. v < n) s.processors l))
           (ap (λ vps. vp_in vps v) e ∙ vp_here p.vps.vps v vp l
           ∙ ap (λ b. record { valid = b; phase = (vp_in p.vps.vps v).phase; cppr = (vp_in p.vps.vps v).cppr; ipb = (vp_in p.vps.vps v).ipb; backlog = (vp_in p.vps.vps v).backlog }) (sym (is_then code done))) (λ t uses. ap (λ rings. ring_in rings t) g)
 

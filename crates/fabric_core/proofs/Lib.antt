@@ -1,5 +1,6 @@
 -- Lemmas.
 pub mod Accessed
+pub mod Choices
 pub mod Connecting
 pub mod Kept
 pub mod Loads
@@ -13,6 +14,7 @@ pub mod Remembering
 pub mod Results
 pub mod Shown
 pub mod ShownVps
+pub mod Silent
 pub mod Skipping
 pub mod Starting
 pub mod Stepping

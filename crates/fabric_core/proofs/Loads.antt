@@ -16,7 +16,8 @@ use Rattle.thread_context.specs.Rings.{ring_in}
 use Rattle.presenter.specs.Contexts.{AreFit}
 use Rattle.fabric_core.specs.Processors.{Parts, StandsFor}
 use Rattle.fabric_core.proofs.Shown.{Says, ring_says}
-use Rattle.fabric_core.proofs.Untouched.{access_silent, keeps}
+use Rattle.fabric_core.proofs.Silent.{access_silent}
+use Rattle.fabric_core.proofs.Untouched.{keeps}
 
 -- ---- the number of some bytes
 -- one more byte at the end

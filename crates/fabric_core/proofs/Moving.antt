@@ -1,5 +1,5 @@
 -- A processor whose context moves: what the account says of it then, and what is kept of it.
-use Rattle.std.proofs.Common.{ℕ, ◌≡◌, ◌<◌, ◌-◌, ◌==◌, ◌&&◌, not, Bool, true, false, true≢false, if◌then◌else◌, Option, Some, None, List, ◌∷◌, refl, sym, ◌∙◌, ap, subst}
+use Rattle.std.proofs.Common.{ℕ, ◌≡◌, ◌<◌, ◌-◌, ◌==◌, ◌&&◌, not, Bool, true, false, true≢false, if◌then◌else◌, Some, None, List, ◌∷◌, refl, sym, ◌∙◌, ap, subst}
 use Rattle.std.specs.Option.{option_map_or}
 use Rattle.std.proofs.lemmas.Bool.{eq-eqb}
 use Rattle.std.proofs.lemmas.Nat.Bits.{bit_at-zero}
@@ -9,14 +9,18 @@ use Rattle.xv_model.specs.declared.operations.Op.TheVariants as op
 use Rattle.xv_model.specs.declared.outcomes.Outcome.TheVariants as out
 use Rattle.xv_model.specs.declared.outcomes.Phase.{Phase}
 use Rattle.xv_model.specs.declared.outcomes.Phase.TheVariants.{Saved, Restored, On, Pulled}
+use Rattle.xv_model.specs.declared.outcomes.Outcome.{Outcome}
+use Rattle.xv_model.specs.declared.tima.RingOp.{RingOp}
 use Rattle.xv_model.specs.declared.tima.RingOp.TheVariants.{Push, Pull}
+use Rattle.std.proofs.Math.Bool.{or-false}
+use Rattle.fabric_core.proofs.Choices.{none_chosen}
 use Rattle.xv_model.specs.account.Start.{Start}
-use Rattle.xv_model.specs.processor.RingOps.{ring_op}
-use Rattle.xv_model.specs.processor.Phases.{cam_of, is_connected, is_on, is_running, is_saved, phase, thread_of}
-use Rattle.xv_model.specs.processor.Pending.{keeps as saves_pending, kept, late, pending}
-use Rattle.xv_model.specs.processor.Registers.{cppr}
-use Rattle.xv_model.specs.processor.Moves.{is_pulled}
 use Rattle.xv_model.specs.processor.Priorities.{has_priority}
+use Rattle.xv_model.specs.processor.RingOps.{ring_op}
+use Rattle.xv_model.specs.processor.Phases.{cam_of, is_connected, is_on, is_running, is_saved, moved_at, moved_by, phase, thread_of}
+use Rattle.xv_model.specs.processor.Pending.{is_pulled as is_pull, keeps as saves_pending, kept, late, pending, ring_says}
+use Rattle.xv_model.specs.processor.Registers.{cppr, cppr_in as cppr_by}
+use Rattle.xv_model.specs.processor.Moves.{is_pulled}
 use Rattle.nvt_backlog.specs.declared.vp.Vp.{Vp}
 use Rattle.nvt_backlog.specs.Vps.{vp_in}
 use Rattle.thread_context.specs.declared.ring.RingRecord.{RingRecord}
@@ -61,31 +65,28 @@ save_moves z h v actor = record {
   late_is = λ q. refl;
 }
 
-none : {A : Type 0} → (b : Bool) (o : Option A) → o ≡ None → (if b then o else None) ≡ None
-none true o e = e
-none false o e = refl
+-- an access to a ring that moves the context, and says nothing of CPPR and of what is pending
+access_moves : (z : Start) (h : List Entry) (v t actor page offset size : ℕ) (access : Access) (o : RingOp) (u : Outcome) (now : Phase) → ring_op page offset size access ≡ Some o →
+    moved_at v (moved_by t o u) ≡ Some now → is_pull (Some now) ≡ is_pulled now → cppr_by o u ≡ None → ((q : ℕ) → ring_says q o u ≡ None) →
+    IsMoved z h v now (record { actor = actor; op = op.Tima t page offset size access; outcome = u })
+access_moves z h v t actor page offset size access o u now e moves pulls stores says = record {
+  phase_is = rw (e, moves) refl;
+  connected_is = refl;
+  cppr_is = rw e (ap (λ n. option_map_or (λ n. n) n (cppr z h v)) (none_chosen (is_on t (phase z h v)) (cppr_by o u) stores));
+  pending_is = λ q. rw e (ap (λ b. option_map_or (λ b. b) b (pending z h v q)) (none_chosen (is_on t (phase z h v)) (ring_says q o u) (says q)));
+  saves = rw (e, moves) (or-false (is_pull (Some now)) ∙ pulls);
+  late_is = λ q. refl;
+}
 
 pub push_moves : (z : Start) (h : List Entry) (v t cam actor page offset size : ℕ) (access : Access) → ring_op page offset size access ≡ Some (Push cam) → cam - cam_of 0 ≡ v →
     IsMoved z h v (On t) (record { actor = actor; op = op.Tima t page offset size access; outcome = out.Fine })
-push_moves z h v t cam actor page offset size access e named = record {
-  phase_is = rw (e, eq-eqb (cam - cam_of 0) v named) refl;
-  connected_is = refl;
-  cppr_is = rw e (ap (λ o. option_map_or (λ n. n) o (cppr z h v)) (none {A = ℕ} (is_on t (phase z h v)) None refl));
-  pending_is = λ q. rw e (ap (λ o. option_map_or (λ b. b) o (pending z h v q)) (none {A = Bool} (is_on t (phase z h v)) None refl));
-  saves = rw (e, eq-eqb (cam - cam_of 0) v named) refl;
-  late_is = λ q. refl;
-}
+push_moves z h v t cam actor page offset size access e named =
+    access_moves z h v t actor page offset size access (Push cam) out.Fine (On t) e (rw (eq-eqb (cam - cam_of 0) v named) refl) refl refl (λ q. refl)
 
 pub pull_moves : (z : Start) (h : List Entry) (v t cam actor page offset size : ℕ) (access : Access) → ring_op page offset size access ≡ Some Pull → cam - cam_of 0 ≡ v →
     IsMoved z h v (Pulled t) (record { actor = actor; op = op.Tima t page offset size access; outcome = out.Value cam })
-pull_moves z h v t cam actor page offset size access e named = record {
-  phase_is = rw (e, eq-eqb (cam - cam_of 0) v named) refl;
-  connected_is = refl;
-  cppr_is = rw e (ap (λ o. option_map_or (λ n. n) o (cppr z h v)) (none {A = ℕ} (is_on t (phase z h v)) None refl));
-  pending_is = λ q. rw e (ap (λ o. option_map_or (λ b. b) o (pending z h v q)) (none {A = Bool} (is_on t (phase z h v)) None refl));
-  saves = rw (e, eq-eqb (cam - cam_of 0) v named) refl;
-  late_is = λ q. refl;
-}
+pull_moves z h v t cam actor page offset size access e named =
+    access_moves z h v t actor page offset size access Pull (out.Value cam) (Pulled t) e (rw (eq-eqb (cam - cam_of 0) v named) refl) refl refl (λ q. refl)
 
 -- ---- what is kept
 -- what is kept of a processor where its context is there: this CPPR, and of the priorities these as they were saved, and these that came late

@@ -26,7 +26,8 @@ use Rattle.presenter.proofs.Fitting.{ring_here, ring_there}
 use Rattle.presenter.proofs.Keeping.{on_thread, or_false}
 use Rattle.fabric_core.specs.Processors.{IsProcessor, Parts, StandsFor, cppr_in}
 use Rattle.fabric_core.proofs.OnThread.{IsOn}
-use Rattle.fabric_core.proofs.Untouched.{IsUntouched, access_off, stays}
+use Rattle.fabric_core.proofs.Silent.{access_off}
+use Rattle.fabric_core.proofs.Untouched.{IsUntouched, stays}
 
 -- no priority is in a byte that is 0
 pub none_in_zero : (ipb q : ℕ) → ipb ≡ 0 → has_priority ipb q ≡ false

@@ -1,7 +1,7 @@
 -- What presentations leave: a priority in a ring, one in a backlog, or nothing.
 use Rattle.std.proofs.Common.{ℕ, ◌≡◌, ◌≢◌, ◌<◌, ◌&&◌, ◌||◌, ◌==◌, ◌⊎◌, Bool, true, false, true≢false, if◌then◌else◌, Some, None, List, ◌∷◌, length, refl, sym, ◌∙◌, ap, subst, inl, inr, slice_set, eq-eqb}
 use Rattle.std.specs.Option.{option_map_or}
-use Rattle.std.proofs.lemmas.Bool.{cases_eq, ne_eqb}
+use Rattle.std.proofs.lemmas.Bool.{cases_eq}
 use Rattle.std.proofs.Math.ListN.{length-set}
 use Rattle.xv_model.specs.declared.entries.Entry.{Entry}
 use Rattle.xv_model.specs.declared.operations.Op.TheVariants as op
@@ -11,9 +11,9 @@ use Rattle.xv_model.specs.declared.outcomes.Phase.TheVariants.{On, Pulled, Resto
 use Rattle.xv_model.specs.declared.outcomes.Presented.{Presented}
 use Rattle.xv_model.specs.declared.outcomes.Presented.TheVariants.{Found, Backlogged, Lost, NoProcessor}
 use Rattle.xv_model.specs.account.Start.{Start}
+use Rattle.xv_model.specs.processor.Priorities.{has_priority}
 use Rattle.xv_model.specs.processor.Phases.{is_running, phase, thread_of}
 use Rattle.xv_model.specs.processor.Pending.{is_kept, late, pending}
-use Rattle.xv_model.specs.processor.Priorities.{has_priority}
 use Rattle.nvt_backlog.specs.declared.vp.Vp.{Vp}
 use Rattle.nvt_backlog.specs.Vps.{vp_in}
 use Rattle.thread_context.specs.Rings.{pending_added, ring_in}
@@ -24,10 +24,13 @@ use Rattle.presenter.specs.Moves.{backlogged, presented_by}
 use Rattle.presenter.proofs.Fitting.{phases_set, vp_here, vp_there}
 use Rattle.presenter.proofs.Keeping.{pending_of}
 use Rattle.fabric_core.specs.Processors.{IsProcessor, Parts, StandsFor, cppr_in}
+use Rattle.std.proofs.Math.Bool.{and-true, or_assoc, or_comm}
 use Rattle.fabric_core.proofs.Accessed.{pending_cppr, raised}
+use Rattle.fabric_core.proofs.Choices.{eqb_swap}
 use Rattle.fabric_core.proofs.OnRing.{on_then, ring_cppr, ring_pending, ring_then}
 use Rattle.fabric_core.proofs.OnThread.{IsOn, on_by_phase}
-use Rattle.fabric_core.proofs.Untouched.{keeps, lost_take, other_take, stays}
+use Rattle.fabric_core.proofs.Silent.{lost_take, other_take}
+use Rattle.fabric_core.proofs.Untouched.{keeps, stays}
 
 -- ---- what the answer says of the phase
 found_on : (q : Phase) (valid b : Bool) → presented_by valid q b ≡ Found → (t : ℕ) × (q ≡ On t)
@@ -49,22 +52,23 @@ backlogged_off Saved valid b e = refl
 backlogged_off (Restored t) valid b e = refl
 backlogged_off (Pulled t) valid b e = refl
 
--- a presentation to v, of the priority
-is_one : (v : ℕ) (b : Bool) → ((v == v) && (b && true)) ≡ b
-is_one v true = ap (λ c. c && true) (eq-eqb v v refl)
-is_one v false = ap (λ c. c && false) (eq-eqb v v refl)
-
 -- one that is a take after h
 abbrev entry : ℕ → ℕ → ℕ → ℕ → Presented → Bool → Entry
 entry actor i v p w escalates = record { actor = actor; op = op.Take i; outcome = out.Present v p w escalates }
+
+-- the priority of a presentation to v, where that is kept
+is_one : (v : ℕ) (b : Bool) → ((v == v) && (b && true)) ≡ b
+is_one v b = ap (λ c. c && (b && true)) (eq-eqb v v refl) ∙ and-true b
+
+pending_then : (z : Start) (h : List Entry) (actor i v p : ℕ) (w : Presented) (escalates : Bool) → is_kept w ≡ true → (q : ℕ) →
+    pending z (entry actor i v p w escalates ∷ h) v q ≡ option_map_or (λ b. b) (if p == q then Some true else None) (pending z h v q)
+pending_then z h actor i v p w escalates kept q =
+    ap (λ b. option_map_or (λ b. b) (if b then Some true else None) (pending z h v q)) (ap (λ b. (v == v) && ((p == q) && b)) kept ∙ is_one v (p == q))
 
 -- ---- the priority is in the ring
 module _ (p p' : Parts) (z : Start) (h : List Entry) (actor i v priority t : ℕ) (escalates : Bool) (s : StandsFor p z h) (f : AreFit p.vps.vps p.rings) (at : (vp_in p.vps.vps v).phase ≡ On t) where
   abbrev found : Entry
   found = entry actor i v priority Found escalates
-
-  pending_found : (q : ℕ) → pending z (found ∷ h) v q ≡ option_map_or (λ b. b) (if priority == q then Some true else None) (pending z h v q)
-  pending_found q = ap (λ b. option_map_or (λ b. b) (if b then Some true else None) (pending z h v q)) (is_one v (priority == q))
 
   pub finds : p'.vps ≡ p.vps → p'.rings ≡ slice_set p.rings t (pending_added priority (ring_in p.rings t)) → StandsFor p' z (found ∷ h)
   finds same set =
@@ -74,27 +78,12 @@ module _ (p p' : Parts) (z : Start) (h : List Entry) (actor i v priority t : ℕ
       (λ w l other. other_take z h w v priority actor i Found escalates (λ e. other (sym e)))
       (on_then p.vps.vps p.rings z h found v t (pending_added priority (ring_in p.rings t)) is o.phase_is (f.threads v t (ap thread_of at)) refl o.phase_is
       (pending_cppr priority (ring_in p.rings t) ∙ ring_cppr p.vps.vps p.rings z h v t is o.phase_is)
-      (λ q b. after_add priority (ring_in p.rings t) q b ∙ ap (λ c. c || (q == priority)) (ring_pending p.vps.vps p.rings z h v t is o.phase_is q b) ∙ raised (pending z h v q) priority q ∙ sym (pending_found q)))
+      (λ q b. after_add priority (ring_in p.rings t) q b ∙ ap (λ c. c || (q == priority)) (ring_pending p.vps.vps p.rings z h v t is o.phase_is q b) ∙ raised (pending z h v q) priority q ∙ sym (pending_then z h actor i v priority Found escalates refl q)))
 
 -- ---- the priority is in the backlog
 -- a priority that came late, beside those that did
 comes_late : (a : Bool) (v p q : ℕ) → (a || (q == p)) ≡ (((v == v) && ((p == q) && true)) || a)
-comes_late a v p q = ap (λ b. a || b) (same_test (cases_eq p q)) ∙ swapped a (p == q) ∙ ap (λ b. b || a) (sym (is_one v (p == q)))
-  where
-    same_test : (p ≡ q) ⊎ (p ≢ q) → (q == p) ≡ (p == q)
-    same_test (inl same) = eq-eqb q p (sym same) ∙ sym (eq-eqb p q same)
-    same_test (inr other) = ne_eqb q p (λ same. other (sym same)) ∙ sym (ne_eqb p q other)
-
-    swapped : (a b : Bool) → (a || b) ≡ (b || a)
-    swapped true true = refl
-    swapped true false = refl
-    swapped false true = refl
-    swapped false false = refl
-
--- one more at the right
-or_right : (a b c : Bool) → (a || (b || c)) ≡ ((a || b) || c)
-or_right true b c = refl
-or_right false b c = refl
+comes_late a v p q = ap (λ b. a || b) (eqb_swap q p) ∙ or_comm a (p == q) ∙ ap (λ b. b || a) (sym (is_one v (p == q)))
 
 module _ (p p' : Parts) (z : Start) (h : List Entry) (actor i v priority : ℕ) (escalates : Bool) (s : StandsFor p z h) (l : v < z.board.limits.processors) (few : priority < 8) (off : is_running (phase z h v) ≡ false) where
   abbrev came : Entry
@@ -109,9 +98,6 @@ module _ (p p' : Parts) (z : Start) (h : List Entry) (actor i v priority : ℕ) 
   inside : v < length p.vps.vps
   inside = subst (λ n. v < n) (sym s.processors) l
 
-  pending_came : (q : ℕ) → pending z (came ∷ h) v q ≡ option_map_or (λ b. b) (if priority == q then Some true else None) (pending z h v q)
-  pending_came q = ap (λ b. option_map_or (λ b. b) (if b then Some true else None) (pending z h v q)) (is_one v (priority == q))
-
   late_one : IsProcessor vps p.rings z (came ∷ h) v
   late_one =
       let is : IsProcessor p.vps.vps p.rings z h v = s.each v l in
@@ -123,10 +109,10 @@ module _ (p p' : Parts) (z : Start) (h : List Entry) (actor i v priority : ℕ) 
         is_pending_as = λ q b.
             ap (λ (y : Vp). pending_of y p.rings q) here
             ∙ ap (λ c. has_priority (ipb_in vp p.rings (thread_of vp.phase)) q || c) (with_one vp.backlog priority q few b)
-            ∙ or_right (has_priority (ipb_in vp p.rings (thread_of vp.phase)) q) (has_priority vp.backlog q) (q == priority)
+            ∙ sym (or_assoc (has_priority (ipb_in vp p.rings (thread_of vp.phase)) q) (has_priority vp.backlog q) (q == priority))
             ∙ ap (λ c. c || (q == priority)) (is.is_pending_as q b)
             ∙ raised (pending z h v q) priority q
-            ∙ sym (pending_came q);
+            ∙ sym (pending_then z h actor i v priority Backlogged escalates refl q);
         is_kept_as = λ e q b. ap (λ (y : Vp). has_priority (ipb_in y p.rings (thread_of (phase z h v))) q) here ∙ is.is_kept_as off q b;
         is_late_as = λ e q b. ap (λ (y : Vp). has_priority y.backlog q) here ∙ with_one vp.backlog priority q few b ∙ ap (λ c. c || (q == priority)) (is.is_late_as off q b) ∙ comes_late (late z h v q) v priority q;
         none_late = λ e. absurd (true≢false (sym e ∙ off));

@@ -17,6 +17,7 @@ use Rattle.nvt_backlog.specs.Vps.{vp_in}
 use Rattle.presenter.specs.Contexts.{AreFit, IsUser, named_by}
 use Rattle.presenter.specs.Moves.{push_refused, restore_refused, save_refused}
 use Rattle.presenter.proofs.Fitting.{none_some}
+use Rattle.std.proofs.lemmas.Option.{none-some}
 use Rattle.fabric_core.specs.Processors.{Parts, StandsFor}
 use Rattle.fabric_core.proofs.OnThread.{on_named}
 use Rattle.fabric_core.proofs.Places.{counted, on_stands, user_stands}
@@ -26,14 +27,11 @@ abbrev pub answer : Option MoveRefused → Outcome
 answer None = Fine
 answer (Some why) = Refused why
 
-none_is : (why : MoveRefused) → None ≡ Some why → ⊥
-none_is why e = cc
-
 -- a result and an answer that come of the same refusal
 pub answers : (refused : Option MoveRefused) (r : Result Unit MoveRefused) (o : Outcome) → ((why : MoveRefused) → (r ≡ Err why) ↔ (refused ≡ Some why)) →
     OnOk r (o ≡ Fine) → ((why : MoveRefused) → r ≡ Err why → o ≡ Refused why) → o ≡ answer refused
 answers None (Ok u) o same fine told = fine
-answers None (Err why) o same fine told = absurd (none_is why ((same why).0 refl))
+answers None (Err why) o same fine told = absurd (none-some why ((same why).0 refl))
 answers (Some why) r o same fine told = told why ((same why).1 refl)
 
 -- ---- the refusals are those of the account's definitions

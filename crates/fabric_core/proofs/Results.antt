@@ -21,19 +21,18 @@ use Rattle.thread_context.specs.Rings.{free_ring, loaded, pulled, pushed, ring_i
 use Rattle.presenter.specs.Contexts.{AreFit, IsUser, KeepsPending, named_by}
 use Rattle.presenter.specs.Moves.{on, pulled_from, push_refused, restore_refused, restored, save_refused, saved_from}
 use Rattle.presenter.proofs.Fitting.{none_some}
+use Rattle.std.proofs.lemmas.Option.{none-some}
 use Rattle.fabric_core.specs.Processors.{Parts, StandsFor}
 use Rattle.fabric_core.proofs.OnThread.{on_named}
 use Rattle.fabric_core.proofs.Places.{on_stands, user_stands}
 use Rattle.fabric_core.proofs.Refusals.{cam_named, named_below}
 use Rattle.fabric_core.proofs.Stepping.{pulled_stands, pushed_stands, restored_stands, saved_stands}
-use Rattle.fabric_core.proofs.Untouched.{IsUntouched, access_refused, keeps, refused_restore, refused_save, untouched}
+use Rattle.fabric_core.proofs.Silent.{access_refused, refused_restore, refused_save, untouched}
+use Rattle.fabric_core.proofs.Untouched.{IsUntouched, keeps}
 
 -- ---- a move that is done isn't refused
 ok_err : (u : Unit) (why : MoveRefused) → (let r : Result Unit MoveRefused = Ok u in r ≡ Err why) → ⊥
 ok_err u why e = cc
-
-some_none : (why : MoveRefused) → Some why ≡ None → ⊥
-some_none why e = cc
 
 allowed : (refused : Option MoveRefused) (r : Result Unit MoveRefused) (u : Unit) → r ≡ Ok u → ((why : MoveRefused) → (r ≡ Err why) ↔ (refused ≡ Some why)) → refused ≡ None
 allowed None r u e same = refl
@@ -59,7 +58,7 @@ pushable true (Restored u) t e = by (u == t) refl e
   where
     by : (b : Bool) → (u == t) ≡ b → (if b then None else Some (NotRestored (Restored u))) ≡ None → Restored u ≡ Restored t
     by true same e = ap Restored (eqb-true u t same)
-    by false same e = absurd (some_none (NotRestored (Restored u)) e)
+    by false same e = absurd (none-some (NotRestored (Restored u)) (sym e))
 pushable true Saved t e = absurd cc
 pushable true (On u) t e = absurd cc
 pushable true (Pulled u) t e = absurd cc

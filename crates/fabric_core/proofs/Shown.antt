@@ -8,7 +8,7 @@ use Rattle.xv_model.specs.declared.outcomes.Phase.{Phase}
 use Rattle.xv_model.specs.declared.outcomes.Phase.TheVariants.{Saved, Restored, On, Pulled}
 use Rattle.xv_model.specs.account.Start.{Start}
 use Rattle.xv_model.specs.processor.Priorities.{has_priority, least_of, priorities}
-use Rattle.xv_model.specs.processor.Phases.{cam_of, is_running, phase, thread_of, user_of}
+use Rattle.xv_model.specs.processor.Phases.{is_running, phase, user_of, thread_of, cam_of}
 use Rattle.xv_model.specs.processor.Pending.{kept, pending}
 use Rattle.xv_model.specs.processor.Registers.{Ring as Registers, cppr, ring, ring_of as registers_of, used_ring}
 use Rattle.xv_model.proofs.Bytes as bytes
@@ -18,12 +18,12 @@ use Rattle.thread_context.specs.Priorities.{least_pending}
 use Rattle.thread_context.specs.Ring.{is_valid, nsr_of, ring_of}
 use Rattle.thread_context.specs.Rings.{free_ring, ring_in}
 use Rattle.thread_context.proofs.Pending.{least_exactly, none_exactly}
-use Rattle.presenter.specs.Contexts.{AreFit, IsUser, ipb_in, pulled_cam_of}
+use Rattle.presenter.specs.Contexts.{AreFit, IsUser, pulled_cam_of, ipb_in}
 use Rattle.presenter.proofs.Fitting.{none_some, same_some}
 use Rattle.fabric_core.specs.Processors.{IsProcessor, Parts, StandsFor, cppr_in, ring_shown}
 use Rattle.fabric_core.proofs.OnRing.{none_in_zero, ring_cppr, ring_pending}
-use Rattle.fabric_core.proofs.OnThread.{uses_inside}
-use Rattle.fabric_core.proofs.Places.{user_stands}
+use Rattle.fabric_core.proofs.OnThread.{valid_word}
+use Rattle.fabric_core.proofs.Places.{user_stands, uses_inside}
 
 -- ---- registers that say the same
 -- the least priority of a byte is that of the priorities that it has
@@ -58,9 +58,6 @@ says r on stored cam picks valid cppr pending word = record {
 not_valid : (v : ℕ) → v < 2 ^ 30 → is_valid (pulled_cam_of v) ≡ false
 not_valid v l = grind (arith, nat_tests)
 
-is_word : (v : ℕ) → is_valid (cam_of v) ≡ true
-is_word v = grind (arith, nat_tests)
-
 module _ (p : Parts) (z : Start) (h : List Entry) (s : StandsFor p z h) (f : AreFit p.vps.vps p.rings) where
   says_used : (v t : ℕ) (q : Phase) → phase z h v ≡ q → v < z.board.limits.processors → thread_of q ≡ Some t → Says (ring_in p.rings t) (used_ring z h v q)
   says_used v t Saved e l uses = absurd (none_some t uses)
@@ -72,7 +69,7 @@ module _ (p : Parts) (z : Start) (h : List Entry) (s : StandsFor p z h) (f : Are
   says_used v t (On u) e l uses = subst (λ k. Says (ring_in p.rings k) (used_ring z h v (On u))) (sym (same_some u t uses))
       (let is : IsProcessor p.vps.vps p.rings z h v = s.each v l in
       let word : (ring_in p.rings u).cam ≡ cam_of v = f.on v u (is.at ∙ e) in
-      says (ring_in p.rings u) true (cppr z h v) (0x80000400 + v) (pending z h v) (ap is_valid word ∙ is_word v) (ring_cppr p.vps.vps p.rings z h v u is e) (ring_pending p.vps.vps p.rings z h v u is e) (word ∙ omega arith))
+      says (ring_in p.rings u) true (cppr z h v) (0x80000400 + v) (pending z h v) (ap is_valid word ∙ valid_word v) (ring_cppr p.vps.vps p.rings z h v u is e) (ring_pending p.vps.vps p.rings z h v u is e) (word ∙ omega arith))
   says_used v t (Pulled u) e l uses = subst (λ k. Says (ring_in p.rings k) (used_ring z h v (Pulled u))) (sym (same_some u t uses))
       (let is : IsProcessor p.vps.vps p.rings z h v = s.each v l in
       let word : (ring_in p.rings u).cam ≡ pulled_cam_of v = f.pulled v u (is.at ∙ e) in

@@ -1,7 +1,7 @@
 -- Processors in which the context of one moves represent the account with that move.
 use Rattle.std.proofs.Common.{ℕ, ◌≡◌, ◌≢◌, ◌<◌, ◌-◌, ◌==◌, ◌&&◌, not, false, if◌then◌else◌, Some, None, List, ◌∷◌, length, refl, sym, ◌∙◌, ap, subst, inl, inr, slice_set}
 use Rattle.std.specs.Prelude.{◌⊎◌}
-use Rattle.std.proofs.lemmas.Bool.{cases_eq, ne_eqb}
+use Rattle.std.proofs.lemmas.Bool.{cases_eq}
 use Rattle.std.proofs.Math.ListN.{length-set}
 use Rattle.xv_model.specs.declared.entries.Entry.{Entry}
 use Rattle.xv_model.specs.declared.operations.Access.{Access}
@@ -28,7 +28,8 @@ use Rattle.fabric_core.proofs.Moving.{IsMoved, IsVpOf, of_processor, pull_moves,
 use Rattle.fabric_core.proofs.OnRing.{ring_pending}
 use Rattle.fabric_core.proofs.OnThread.{off_phase, phase_named}
 use Rattle.fabric_core.proofs.Places.{counted}
-use Rattle.fabric_core.proofs.Untouched.{IsUntouched, access_off, other_restore, other_save, stays}
+use Rattle.fabric_core.proofs.Silent.{access_off, not_moved, other_restore, other_save}
+use Rattle.fabric_core.proofs.Untouched.{IsUntouched, stays}
 
 -- processor v and the ring of thread t become these; no other processor uses the thread, and v no other thread
 pub record IsStep (p p' : Parts) (v t : ℕ) (vp : Vp) (r : RingRecord) : Type 0 where
@@ -142,7 +143,7 @@ module _ (p p' : Parts) (z : Start) (h : List Entry) (s : StandsFor p z h) (f : 
 
   -- an accepted push or pull of v is no move of another
   no_move : (v w n : ℕ) (now : Phase) → n ≡ v → w ≢ v → (if n == w then Some now else None) ≡ None
-  no_move v w n now named other = ap (λ b. if b then Some now else None) (ne_eqb n w (λ same. other (sym same ∙ named)))
+  no_move v w n now named other = not_moved w n now (λ same. other (sym same ∙ named))
 
   pub pushed_stands : (v t cam actor page offset size : ℕ) (access : Access) → ring_op page offset size access ≡ Some (Push cam) → cam - cam_of 0 ≡ v → v < length p.vps.vps → (vp_in p.vps.vps v).phase ≡ Restored t →
       p'.vps.vps ≡ slice_set p.vps.vps v (on t (vp_in p.vps.vps v)) → p'.rings ≡ slice_set p.rings t (pushed cam (vp_in p.vps.vps v).backlog (ring_in p.rings t)) → p'.vps.servers ≡ p.vps.servers →

@@ -1,7 +1,12 @@
 -- What a fabric keeps of processors and of the rings of threads, and which account that represents.
-use Rattle.std.specs.Prelude.{ℕ, ◌≡◌, ◌<◌, true, false, List, length, Option, Some, None}
+use Rattle.std.specs.Prelude.{ℕ, ◌≡◌, ◌<◌, true, false, List, ◌∷◌, length, Option, Some, None}
 use Rattle.xv_model.specs.declared.entries.Entry.{Entry}
+use Rattle.xv_model.specs.declared.operations.Access.{Access}
+use Rattle.xv_model.specs.declared.operations.Op.TheVariants.{Tima}
+use Rattle.xv_model.specs.declared.outcomes.Outcome.{Outcome}
+use Rattle.xv_model.specs.declared.tima.RingOp.{RingOp}
 use Rattle.xv_model.specs.account.Start.{Start}
+use Rattle.xv_model.specs.processor.RingOps.{ring_op}
 use Rattle.xv_model.specs.processor.Phases.{is_connected, is_running, is_saved, phase, servers, thread_of}
 use Rattle.xv_model.specs.processor.Pending.{pending, kept, late}
 use Rattle.xv_model.specs.processor.Registers.{cppr, saved_cppr, saved_ipb, backlog, ring}
@@ -43,6 +48,11 @@ pub record StandsFor (p : Parts) (z : Start) (h : List Entry) : Type 0 where
   pub threads : length p.rings ≡ z.board.limits.threads
   pub each : (v : ℕ) → v < z.board.limits.processors → IsProcessor p.vps.vps p.rings z h v
   pub free : (t : ℕ) → IsUser p.vps.vps t None → ring_in p.rings t ≡ free_ring
+
+-- what represents an account before an access that does o to the ring of thread t represents it afterwards with the entry of that access, which answers u
+abbrev pub StandsAfter : Parts → Parts → ℕ → RingOp → Outcome → Type 0
+StandsAfter p p' t o u = (z : Start) (h : List Entry) (actor page offset size : ℕ) (access : Access) → StandsFor p z h → ring_op page offset size access ≡ Some o →
+    StandsFor p' z (record { actor = actor; op = Tima t page offset size access; outcome = u } ∷ h)
 
 -- what is kept of processor v
 abbrev pub vp_of : Start → List Entry → ℕ → Vp

@@ -1,18 +1,15 @@
 //! What accesses to the TIMA do to the rings of threads.
 
-ghost use Rattle.std.specs.Prelude.{◌≡◌, ◌≢◌, ◌<◌, ◌∷◌, ℕ, List, Some, length};
+ghost use Rattle.std.specs.Prelude.{◌≡◌, ◌≢◌, ◌<◌, ℕ, List, length};
 ghost use Rattle.xv_model.specs.declared.entries.Entry.{Entry};
-ghost use Rattle.xv_model.specs.declared.operations.Access.{Access};
-ghost use Rattle.xv_model.specs.declared.operations.Op.TheVariants.{Tima};
 ghost use Rattle.xv_model.specs.declared.outcomes.MoveRefused.{MoveRefused};
 ghost use Rattle.xv_model.specs.declared.outcomes.Outcome.TheVariants.{BadAccess, Refused};
 ghost use Rattle.xv_model.specs.declared.tima.RingOp.TheVariants.{Load, SetCppr, Accept, Inject};
 ghost use Rattle.xv_model.specs.account.Outcomes.{IsWellFormed};
 ghost use Rattle.xv_model.specs.account.Start.{Start};
-ghost use Rattle.xv_model.specs.processor.RingOps.{ring_op};
 ghost use Rattle.xv_model.specs.processor.Accesses.{ring_outcome};
 ghost use Rattle.tima_access.specs.Accesses.{IsInRing};
-ghost use Rattle.fabric_core.specs.Processors.{StandsFor};
+ghost use Rattle.fabric_core.specs.Processors.{StandsFor, StandsAfter};
 ghost use Rattle.thread_context.specs.Ring.{is_valid};
 ghost use Rattle.thread_context.specs.Rings.{ring_in};
 
@@ -34,13 +31,11 @@ impl Processors {
         self.rings.get(t).cam >= CAM_VALID
     }
 
-    /// Stores CPPR.
+    /// Stores CPPR, where a processor is on the thread.
     fn set_cppr(&mut self, t: u32, value: u8) -> Outcome
         requires thread { t < length self.old.rings }
         ensures outcome { (z : Start) (h : List Entry) → StandsFor self.old z h → result ≡ ring_outcome z h t (SetCppr value) }
-        ensures stands { (z : Start) (h : List Entry) (actor page offset size : ℕ) (access : Access) → StandsFor self.old z h
-            → ring_op page offset size access ≡ Some (SetCppr value)
-            → StandsFor self.new z (record { actor = actor; op = Tima t page offset size access; outcome = result } ∷ h) }
+        ensures stands { StandsAfter self.old self.new t (SetCppr value) result }
         ensures refused { (why : MoveRefused) → result ≡ Refused why → self.new ≡ self.old }
         ensures good_access { result ≢ BadAccess }
         ensures well_formed { IsWellFormed result }
@@ -54,13 +49,11 @@ impl Processors {
         Outcome::Stored
     }
 
-    /// Acknowledges.
+    /// Acknowledges, where a processor is on the thread.
     fn accept(&mut self, t: u32) -> Outcome
         requires thread { t < length self.old.rings }
         ensures outcome { (z : Start) (h : List Entry) → StandsFor self.old z h → result ≡ ring_outcome z h t Accept }
-        ensures stands { (z : Start) (h : List Entry) (actor page offset size : ℕ) (access : Access) → StandsFor self.old z h
-            → ring_op page offset size access ≡ Some Accept
-            → StandsFor self.new z (record { actor = actor; op = Tima t page offset size access; outcome = result } ∷ h) }
+        ensures stands { StandsAfter self.old self.new t Accept result }
         ensures refused { (why : MoveRefused) → result ≡ Refused why → self.new ≡ self.old }
         ensures good_access { result ≢ BadAccess }
         ensures well_formed { IsWellFormed result }
@@ -75,13 +68,11 @@ impl Processors {
         }
     }
 
-    /// Makes a priority pending.
+    /// Makes a priority pending, where a processor is on the thread.
     fn inject(&mut self, t: u32, priority: u8) -> Outcome
         requires thread { t < length self.old.rings }
         ensures outcome { (z : Start) (h : List Entry) → StandsFor self.old z h → result ≡ ring_outcome z h t (Inject priority) }
-        ensures stands { (z : Start) (h : List Entry) (actor page offset size : ℕ) (access : Access) → StandsFor self.old z h
-            → ring_op page offset size access ≡ Some (Inject priority)
-            → StandsFor self.new z (record { actor = actor; op = Tima t page offset size access; outcome = result } ∷ h) }
+        ensures stands { StandsAfter self.old self.new t (Inject priority) result }
         ensures refused { (why : MoveRefused) → result ≡ Refused why → self.new ≡ self.old }
         ensures good_access { result ≢ BadAccess }
         ensures well_formed { IsWellFormed result }
@@ -96,14 +87,12 @@ impl Processors {
     }
 
     /// What an access to a page of the TIMA answers that does this to the ring of a thread. A load changes nothing,
-    /// nor does what is refused.
+    /// nor does what is refused, as all but loads and pushes are where no processor is on the thread.
     pub fn access(&mut self, t: u32, op: RingOp) -> Outcome
         requires thread { t < length self.old.rings }
         requires inside { IsInRing op }
         ensures outcome { (z : Start) (h : List Entry) → StandsFor self.old z h → result ≡ ring_outcome z h t op }
-        ensures stands { (z : Start) (h : List Entry) (actor page offset size : ℕ) (access : Access) → StandsFor self.old z h
-            → ring_op page offset size access ≡ Some op
-            → StandsFor self.new z (record { actor = actor; op = Tima t page offset size access; outcome = result } ∷ h) }
+        ensures stands { StandsAfter self.old self.new t op result }
         ensures loads { (at size : ℕ) → op ≡ Load at size → self.new ≡ self.old }
         ensures refused { (why : MoveRefused) → result ≡ Refused why → self.new ≡ self.old }
         ensures good_access { result ≢ BadAccess }

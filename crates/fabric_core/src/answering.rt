@@ -28,7 +28,7 @@ use tima_access::{BadAccess, decode};
 use xv_model::operations::{Access, Op};
 use xv_model::outcomes::{Outcome, Presented};
 
-/// What a message answers that was presented so.
+/// What taking a message answers, by what became of it.
 fn answer_of(message: Presentation, presented: Presented) -> Outcome
     ensures { result ≡ ended message presented }
 {
@@ -93,6 +93,7 @@ fn access_tima(
 }
 
 /// What an operation answers. The parts then represent the account with that entry. Refused, it changes none of them.
+/// `forwards` is how often the source has forwarded whose notice is routed; no other operation looks at it.
 pub(crate) fn answer(
     tables: &mut Tables,
     ram: &mut Ram,

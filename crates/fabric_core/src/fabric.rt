@@ -151,9 +151,10 @@ impl Fabric {
     }
 
     /// Makes one entry: what an operation by an actor answers that is on no word of a source and not quiet.
-    /// The board has the operation; where it routes a notice, the source forwarded so often. No END has come to
-    /// the limit of its counts: since it was configured, fewer than 2^63 entries were written into its queue, and
-    /// fewer than that taken from it (end_queue's `HasRoom`; `queue` shows both counts). Refused, it changes nothing.
+    /// The board has the operation. `forwards` is how often the source has forwarded whose notice is routed; no
+    /// other operation looks at it. No END has come to the limit of its counts: since it was configured, fewer than
+    /// 2^63 entries were written into its queue, and fewer than that taken from it (end_queue's `HasRoom`; `queue`
+    /// shows both counts). Refused, it changes nothing.
     pub fn step(&mut self, actor: u32, op: &Op, forwards: u64) -> Entry
         requires op { IsTrue (valid self.old.tables.board op.now) }
         requires fabric { is_fabric self.old.tables.board op.now ≡ true }

@@ -12,7 +12,7 @@ ghost use Rattle.guest_ram.specs.Ram.{StandsFor};
 use guest_ram::Ram;
 use xv_model::outcomes::Outcome;
 
-/// Looks at the word at an address.
+/// Looks at the word at an address: `BadRange` where no whole word of memory is there.
 pub(crate) fn peek(ram: &Ram, addr: u64) -> Outcome
     ensures outcome { (z : Start) (h : List Entry)
         → StandsFor ram.now z h → result ≡ peek_outcome z h addr }
@@ -27,7 +27,8 @@ pub(crate) fn peek(ram: &Ram, addr: u64) -> Outcome
     }
 }
 
-/// Makes `len` bytes zero, from an address on.
+/// Makes `len` bytes zero, from an address on: `BadRange` where these aren't whole words of memory, and then
+/// nothing changes.
 pub(crate) fn zero(ram: &mut Ram, addr: u64, len: u64) -> Outcome
     ensures outcome { (z : Start) (h : List Entry)
         → StandsFor ram.old z h → result ≡ zero_outcome z.board addr len }

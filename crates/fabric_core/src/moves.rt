@@ -1,22 +1,20 @@
 //! The moves of contexts, by operations and by accesses to the TIMA.
 
-ghost use Rattle.std.specs.Prelude.{◌≡◌, ◌≢◌, ◌<◌, ◌∷◌, ℕ, List, Some, length, OnOk};
+ghost use Rattle.std.specs.Prelude.{◌≡◌, ◌≢◌, ◌<◌, ◌∷◌, ℕ, List, length, OnOk};
 ghost use Rattle.xv_model.specs.declared.outcomes.MoveRefused.{MoveRefused};
 ghost use Rattle.xv_model.specs.declared.outcomes.Outcome.TheVariants.{BadAccess, Fine, Refused, Value};
 ghost use Rattle.xv_model.specs.declared.entries.Entry.{Entry};
-ghost use Rattle.xv_model.specs.declared.operations.Access.{Access};
-ghost use Rattle.xv_model.specs.declared.operations.Op.TheVariants.{Restore, Save, Tima};
+ghost use Rattle.xv_model.specs.declared.operations.Op.TheVariants.{Restore, Save};
 ghost use Rattle.xv_model.specs.declared.tima.RingOp.TheVariants.{Push, Pull};
 ghost use Rattle.xv_model.specs.account.Outcomes.{IsWellFormed};
 ghost use Rattle.xv_model.specs.account.Start.{Start};
 ghost use Rattle.xv_model.specs.processor.Moves.{restore_outcome, save_outcome, push_outcome, pull_outcome};
-ghost use Rattle.xv_model.specs.processor.RingOps.{ring_op};
-ghost use Rattle.fabric_core.specs.Processors.{StandsFor};
+ghost use Rattle.fabric_core.specs.Processors.{StandsFor, StandsAfter};
 
 use crate::processors::Processors;
 use xv_model::outcomes::{MoveRefused, Outcome};
 
-/// What a move answers that says no more than that it was done.
+/// What a move answers: `Fine`, or why it is refused.
 fn done(moved: Result<(), MoveRefused>) -> Outcome
     ensures well_formed { IsWellFormed result }
     ensures fine { OnOk moved (result ≡ Fine) }
@@ -29,7 +27,7 @@ fn done(moved: Result<(), MoveRefused>) -> Outcome
     }
 }
 
-/// What a pull answers: the CAM word of the context that it took off a thread.
+/// What a pull answers: the CAM word of the context that it took off a thread, or why it is refused.
 fn pulled(moved: Result<u32, MoveRefused>) -> Outcome
     ensures value { (cam : ℕ) → moved ≡ Ok cam → result ≡ Value cam }
     ensures refused { (why : MoveRefused) → moved ≡ Err why → result ≡ Refused why }
@@ -42,7 +40,7 @@ fn pulled(moved: Result<u32, MoveRefused>) -> Outcome
 }
 
 impl Processors {
-    /// Restores the context of a processor for a thread. Refused, it changes nothing.
+    /// Restores the context of a processor on a thread. Refused, it changes nothing.
     pub fn restore(&mut self, v: u32, t: u32) -> Outcome
         requires processor { v < length self.old.vps.vps }
         requires thread { t < length self.old.rings }
@@ -75,9 +73,7 @@ impl Processors {
     pub(crate) fn push(&mut self, t: u32, cam: u32) -> Outcome
         requires thread { t < length self.old.rings }
         ensures outcome { (z : Start) (h : List Entry) → StandsFor self.old z h → result ≡ push_outcome z h t cam }
-        ensures stands { (z : Start) (h : List Entry) (actor page offset size : ℕ) (access : Access) → StandsFor self.old z h
-            → ring_op page offset size access ≡ Some (Push cam)
-            → StandsFor self.new z (record { actor = actor; op = Tima t page offset size access; outcome = result } ∷ h) }
+        ensures stands { StandsAfter self.old self.new t (Push cam) result }
         ensures refused { (why : MoveRefused) → result ≡ Refused why → self.new ≡ self.old }
         ensures good_access { result ≢ BadAccess }
         ensures well_formed { IsWellFormed result }
@@ -91,9 +87,7 @@ impl Processors {
     pub(crate) fn pull(&mut self, t: u32) -> Outcome
         requires thread { t < length self.old.rings }
         ensures outcome { (z : Start) (h : List Entry) → StandsFor self.old z h → result ≡ pull_outcome z h t }
-        ensures stands { (z : Start) (h : List Entry) (actor page offset size : ℕ) (access : Access) → StandsFor self.old z h
-            → ring_op page offset size access ≡ Some Pull
-            → StandsFor self.new z (record { actor = actor; op = Tima t page offset size access; outcome = result } ∷ h) }
+        ensures stands { StandsAfter self.old self.new t Pull result }
         ensures refused { (why : MoveRefused) → result ≡ Refused why → self.new ≡ self.old }
         ensures good_access { result ≢ BadAccess }
         ensures well_formed { IsWellFormed result }

@@ -12,7 +12,8 @@ use crate::processors::Processors;
 use xv_model::outcomes::Presented;
 
 impl Processors {
-    /// Presents a priority to a processor: what becomes of it. A message with b is kept in its backlog.
+    /// Presents a priority to a processor: what becomes of it. Where a connected processor isn't on a thread, a
+    /// message with b (`backlog`) is kept in its backlog, and any other is lost.
     pub fn present(&mut self, v: u32, priority: u8, backlog: bool) -> Presented
         requires processor { v < length self.old.vps.vps }
         requires priority { priority < 8 }

@@ -13,14 +13,13 @@ ghost use Rattle.fabric_core.specs.Processors.{StandsFor, vp_of, ring_shown};
 use nvt_backlog::{Vp, Vps};
 use std::alloc::Global;
 use std::marker::Model;
-use std::vec::Vec;
 use thread_context::{Ring, Rings};
 use xv_base::NoMemory;
 use xv_model::board::Board;
 use xv_model::outcomes::Outcome;
 
-/// The processors of a board, and the rings of its threads. Each call says what an operation answers, and the
-/// processors then represent the account with that entry.
+/// The processors of a board, and the rings of its threads. A call that changes them answers as the operation
+/// does, and they then represent the account with that entry.
 #[derive(Drop)]
 pub struct Processors {
     pub(crate) vps: Vps,
@@ -56,7 +55,7 @@ impl Processors {
         })
     }
 
-    /// The processors alone, without the rings.
+    /// The processors without the rings.
     pub fn vps(&self) -> &Vps
         ensures { result.now ≡ self.now.vps }
     {

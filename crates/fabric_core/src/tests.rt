@@ -1,4 +1,4 @@
-//! What the tests share: boards, operations, and a fabric that is asked first what it has to be told.
+//! What the tests share: boards, and a fabric that is asked first whether its board has what is named.
 
 mod acknowledgements;
 mod memory;
@@ -8,12 +8,10 @@ mod presentations;
 mod processors;
 mod routes;
 
-ghost use Rattle.std.specs.Prelude.{◌≡◌, ◌+◌, ◌*◌, ◌<◌, IsTrue, All, None, true, false};
-ghost use Rattle.xv_base.specs.Limits.{ends_per_processor, most_entries};
+ghost use Rattle.std.specs.Prelude.{◌≡◌, ◌+◌, IsTrue, None, true, false};
 ghost use Rattle.xv_model.specs.board.Boards.{IsBoard, AreBelow};
 ghost use Rattle.xv_model.specs.account.Kinds.{is_fabric as is_of_fabric};
 ghost use Rattle.xv_model.specs.source.Pages.{page_op};
-ghost use Rattle.end_queue.specs.Ends.{HasCountsAtMost};
 
 use crate::tests::operations::{config, target};
 use crate::{Fabric, QueueView};

@@ -1,6 +1,6 @@
 //! Processors and rings without a fabric around them.
 
-ghost use Rattle.std.specs.Prelude.{◌≡◌, ◌<◌, IsTrue, length};
+ghost use Rattle.std.specs.Prelude.{IsTrue};
 ghost use Rattle.tima_access.specs.Accesses.{IsInRing};
 
 use crate::processors::Processors;

@@ -1,7 +1,7 @@
 //! Operations on sources, on ENDs and on the messages in flight.
 
 use crate::tests::operations::{config, target};
-use crate::tests::{Bench, largest_board, small_board};
+use crate::tests::{Bench, small_board};
 use xv_base::limits::MOST_MESSAGES;
 use xv_model::operations::Op;
 use xv_model::outcomes::{EndRun, Outcome, Presented, Routed, Then, Wrote};
@@ -51,6 +51,19 @@ fn pass(outcome: Outcome, number: u64) -> Option<(u32, Option<(u64, u32)>, bool)
     }
 }
 
+/// Whether notice `number` of a source came to an END that isn't valid.
+fn is_at_no_end(outcome: Outcome, number: u64, end: u32) -> bool {
+    matches!(
+        outcome,
+        Outcome::Routed {
+            k,
+            routed: Routed::Run {
+                run: EndRun::NoEnd { e }
+            }
+        } if k == number && e == end
+    )
+}
+
 #[test]
 fn accesses_that_touch_no_word(rt: HostRuntime) {
     let b = &mut Bench::build(&rt, rt.alloc(), &small_board());
@@ -85,17 +98,7 @@ fn routes_by_the_forwards_that_are_handed_in(rt: HostRuntime) {
         )
     );
     assert_eq!(rt; b.code(&rt, target(0, 0, 0, 0x10)), 0);
-    assert!(rt;
-        matches!(
-            b.route(&rt, 0, 2),
-            Outcome::Routed {
-                k: 2,
-                routed: Routed::Run {
-                    run: EndRun::NoEnd { e: 0 }
-                }
-            }
-        )
-    );
+    assert!(rt; is_at_no_end(b.route(&rt, 0, 2), 2, 0));
     assert!(rt; matches!(b.route(&rt, 0, 2), Outcome::NoNotice));
     assert_eq!(rt; b.routes(&rt, 0), 2);
     assert!(rt;
@@ -183,17 +186,7 @@ fn target_that_was_connected_since(rt: HostRuntime) {
     assert_eq!(rt; b.connect(&rt, 2), 0);
     assert!(rt; b.processor(&rt, 2).valid);
     assert_eq!(rt; b.code(&rt, target(0, 2, 6, 9)), 0);
-    assert!(rt;
-        matches!(
-            b.route(&rt, 0, 1),
-            Outcome::Routed {
-                k: 1,
-                routed: Routed::Run {
-                    run: EndRun::NoEnd { e: 22 }
-                }
-            }
-        )
-    );
+    assert!(rt; is_at_no_end(b.route(&rt, 0, 1), 1, 22));
     assert!(rt;
         b.fine(
             &rt,

@@ -1,39 +1,56 @@
-use Rattle.std.proofs.Common.{◌≡◌, true, ◌∷◌, refl, sym, ◌∙◌, ap, subst, inl, inr}
+use Rattle.std.proofs.Common.{ℕ, ◌≡◌, true, List, ◌∷◌, refl, sym, ◌∙◌, ap, subst, inl, inr}
 use Rattle.std.proofs.lemmas.Bool.{eqb-true}
+use Rattle.xv_model.specs.declared.entries.Entry.{Entry}
 use Rattle.xv_model.specs.declared.hypercalls.TheConstants.{H_INT_SET_SOURCE_CONFIG}
 use Rattle.xv_model.specs.declared.operations.Op.{Op}
 use Rattle.xv_model.specs.declared.operations.Op.TheVariants as op
+use Rattle.xv_model.specs.declared.outcomes.Outcome.{Outcome}
 use Rattle.xv_model.specs.declared.outcomes.Outcome.TheVariants as out
 use Rattle.xv_model.specs.account.Legal.{legal}
+use Rattle.xv_model.specs.account.Start.{Start}
 use Rattle.xv_model.specs.board.Validity.{valid}
 use Rattle.guest_ram.specs.Ram.{StandsFor as MemoryStandsFor}
 use Rattle.router.proofs.Ranges.{one_more_in_all}
-use Rattle.router.specs.Tables.{StandsFor as TablesStandFor}
+use Rattle.router.specs.Tables.{Kept, StandsFor as TablesStandFor}
 use Rattle.fabric_core.specs.Fabric.{IsRefusal}
-use Rattle.fabric_core.specs.Processors.{StandsFor as ProcessorsStandFor}
+use Rattle.fabric_core.specs.Processors.{Parts, StandsFor as ProcessorsStandFor}
 use Rattle.fabric_core.proofs.Kept.{kept_connect, reply_fails}
 use Rattle.fabric_core.proofs.Remembering.{memory_kept}
 use Rattle.fabric_core.proofs.answering.answer.Goals as goal
 
+-- ---- an operation by its variant
+-- what represents the account with the entry of one represents it with that of the other
+tables_of : (t : Kept) (z : Start) (h : List Entry) (actor : ℕ) (u : Outcome) (o o' : Op) → o ≡ o' →
+    TablesStandFor t z (record { actor = actor; op = o'; outcome = u } ∷ h) → TablesStandFor t z (record { actor = actor; op = o; outcome = u } ∷ h)
+tables_of t z h actor u o o' same st = subst (λ p. TablesStandFor t z (record { actor = actor; op = p; outcome = u } ∷ h)) (sym same) st
+
+memory_of : (m : List ℕ) (z : Start) (h : List Entry) (actor : ℕ) (u : Outcome) (o o' : Op) → o ≡ o' →
+    MemoryStandsFor m z (record { actor = actor; op = o'; outcome = u } ∷ h) → MemoryStandsFor m z (record { actor = actor; op = o; outcome = u } ∷ h)
+memory_of m z h actor u o o' same st = subst (λ p. MemoryStandsFor m z (record { actor = actor; op = p; outcome = u } ∷ h)) (sym same) st
+
+processors_of : (p : Parts) (z : Start) (h : List Entry) (actor : ℕ) (u : Outcome) (o o' : Op) → o ≡ o' →
+    ProcessorsStandFor p z (record { actor = actor; op = o'; outcome = u } ∷ h) → ProcessorsStandFor p z (record { actor = actor; op = o; outcome = u } ∷ h)
+processors_of p z h actor u o o' same st = subst (λ o. ProcessorsStandFor p z (record { actor = actor; op = o; outcome = u } ∷ h)) (sym same) st
+
 pub returns-in-EndEsb-clause-tables : goal.returns-in-EndEsb-clause-tables
 returns-in-EndEsb-clause-tables c = λ z h actor st ps counted.
-    subst (λ (p : Op). TablesStandFor c.access_end.new.self z (record { actor = actor; op = p; outcome = c.access_end.result } ∷ h)) (sym c.in-EndEsb.is) (c.access_end.ensures.stands z h actor st)
+    tables_of _ z h actor _ _ _ c.in-EndEsb.is (c.access_end.ensures.stands z h actor st)
 
 pub returns-in-Route-clause-tables : goal.returns-in-Route-clause-tables
 returns-in-Route-clause-tables c = λ z h actor st ps counted.
-    subst (λ (p : Op). TablesStandFor c.route.new.self z (record { actor = actor; op = p; outcome = c.route.result } ∷ h)) (sym c.in-Route.is) (c.route.ensures.stands z h actor st (counted c.in-Route.s c.in-Route.is))
+    tables_of _ z h actor _ _ _ c.in-Route.is (c.route.ensures.stands z h actor st (counted c.in-Route.s c.in-Route.is))
 
 pub returns-in-Take-clause-tables : goal.returns-in-Take-clause-tables
 returns-in-Take-clause-tables c = λ z h actor st ps counted.
-    subst (λ (p : Op). TablesStandFor c.take.new.tables z (record { actor = actor; op = p; outcome = c.take.result } ∷ h)) (sym c.in-Take.is) (c.take.ensures.tables z h actor st)
+    tables_of _ z h actor _ _ _ c.in-Take.is (c.take.ensures.tables z h actor st)
 
 pub returns-in-EndSet-clause-tables : goal.returns-in-EndSet-clause-tables
 returns-in-EndSet-clause-tables c = λ z h actor st ps counted.
-    subst (λ (p : Op). TablesStandFor c.configure.new.self z (record { actor = actor; op = p; outcome = out.Fine } ∷ h)) (sym c.in-EndSet.is) (c.configure.ensures.stands z h actor st)
+    tables_of _ z h actor _ _ _ c.in-EndSet.is (c.configure.ensures.stands z h actor st)
 
 pub returns-in-Read-clause-tables : goal.returns-in-Read-clause-tables
 returns-in-Read-clause-tables c = λ z h actor st ps counted.
-    subst (λ (p : Op). TablesStandFor c.read.new.self z (record { actor = actor; op = p; outcome = c.read.result } ∷ h)) (sym c.in-Read.is) (c.read.ensures.stands z h actor st)
+    tables_of _ z h actor _ _ _ c.in-Read.is (c.read.ensures.stands z h actor st)
 
 -- the hypercall that is valid
 called : (c : goal.After-set_source_config) → c.args.op.now ≡ op.Hcall H_INT_SET_SOURCE_CONFIG c.in-Hcall.args
@@ -41,7 +58,7 @@ called c = c.in-Hcall.is ∙ ap (λ n. op.Hcall n c.in-Hcall.args) (eqb-true c.i
 
 pub returns-in-Hcall-clause-tables : goal.returns-in-Hcall-clause-tables
 returns-in-Hcall-clause-tables c = λ z h actor st ps counted.
-    subst (λ (p : Op). TablesStandFor c.set_source_config.new.self z (record { actor = actor; op = p; outcome = out.Reply c.set_source_config.result } ∷ h)) (sym (called c)) (c.set_source_config.ensures.stands z h actor st)
+    tables_of _ z h actor _ _ _ (called c) (c.set_source_config.ensures.stands z h actor st)
 
 pub returns-in-EndEsb-clause-counts : goal.returns-in-EndEsb-clause-counts
 returns-in-EndEsb-clause-counts c = λ n all. one_more_in_all n c.access_end.new.self.ends (c.access_end.ensures.counts n all)
@@ -54,23 +71,23 @@ returns-in-Hcall-clause-counts c = λ n all. one_more_in_all n c.set_source_conf
 
 pub returns-in-Take-clause-processors : goal.returns-in-Take-clause-processors
 returns-in-Take-clause-processors c = λ z h actor ps.
-    subst (λ (p : Op). ProcessorsStandFor c.take.new.processors z (record { actor = actor; op = p; outcome = c.take.result } ∷ h)) (sym c.in-Take.is) (c.take.ensures.processors z h actor ps)
+    processors_of _ z h actor _ _ _ c.in-Take.is (c.take.ensures.processors z h actor ps)
 
 pub returns-in-Connect-clause-processors : goal.returns-in-Connect-clause-processors
 returns-in-Connect-clause-processors c = λ z h actor ps.
-    subst (λ (p : Op). ProcessorsStandFor c.connect.new.self z (record { actor = actor; op = p; outcome = c.connect.result } ∷ h)) (sym c.in-Connect.is) (c.connect.ensures.stands z h actor ps)
+    processors_of _ z h actor _ _ _ c.in-Connect.is (c.connect.ensures.stands z h actor ps)
 
 pub returns-in-Restore-clause-processors : goal.returns-in-Restore-clause-processors
 returns-in-Restore-clause-processors c = λ z h actor ps.
-    subst (λ (p : Op). ProcessorsStandFor c.restore.new.self z (record { actor = actor; op = p; outcome = c.restore.result } ∷ h)) (sym c.in-Restore.is) (c.restore.ensures.stands z h actor ps)
+    processors_of _ z h actor _ _ _ c.in-Restore.is (c.restore.ensures.stands z h actor ps)
 
 pub returns-in-Save-clause-processors : goal.returns-in-Save-clause-processors
 returns-in-Save-clause-processors c = λ z h actor ps.
-    subst (λ (p : Op). ProcessorsStandFor c.save.new.self z (record { actor = actor; op = p; outcome = c.save.result } ∷ h)) (sym c.in-Save.is) (c.save.ensures.stands z h actor ps)
+    processors_of _ z h actor _ _ _ c.in-Save.is (c.save.ensures.stands z h actor ps)
 
 pub returns-in-Tima-clause-processors : goal.returns-in-Tima-clause-processors
 returns-in-Tima-clause-processors c = λ z h actor ps.
-    subst (λ (p : Op). ProcessorsStandFor c.access_tima.new.processors z (record { actor = actor; op = p; outcome = c.access_tima.result } ∷ h)) (sym c.in-Tima.is) (c.access_tima.ensures.processors z h actor ps)
+    processors_of _ z h actor _ _ _ c.in-Tima.is (c.access_tima.ensures.processors z h actor ps)
 
 pub returns-in-Connect-clause-outcome : goal.returns-in-Connect-clause-outcome
 returns-in-Connect-clause-outcome c = λ z h st ms ps counted. c.connect.ensures.outcome z h ps ∙ ap (legal z h) (sym c.in-Connect.is)
@@ -83,16 +100,15 @@ returns-in-Zero-clause-outcome c = λ z h st ms ps counted. c.zero.ensures.outco
 
 pub returns-in-Route-clause-memory : goal.returns-in-Route-clause-memory
 returns-in-Route-clause-memory c = λ z h actor ms.
-    subst (λ (p : Op). MemoryStandsFor c.route.new.ram z (record { actor = actor; op = p; outcome = c.route.result } ∷ h)) (sym c.in-Route.is) (c.route.ensures.memory z h actor ms)
+    memory_of _ z h actor _ _ _ c.in-Route.is (c.route.ensures.memory z h actor ms)
 
 pub returns-in-Zero-clause-memory : goal.returns-in-Zero-clause-memory
 returns-in-Zero-clause-memory c = λ z h actor ms.
-    subst (λ (p : Op). MemoryStandsFor c.zero.new.ram z (record { actor = actor; op = p; outcome = c.zero.result } ∷ h)) (sym c.in-Zero.is) (c.zero.ensures.memory z h actor ms)
+    memory_of _ z h actor _ _ _ c.in-Zero.is (c.zero.ensures.memory z h actor ms)
 
 pub returns-in-Take-clause-memory : goal.returns-in-Take-clause-memory
 returns-in-Take-clause-memory c = λ z h actor ms.
-    subst (λ (p : Op). MemoryStandsFor c.args.ram.now z (record { actor = actor; op = p; outcome = c.take.result } ∷ h)) (sym c.in-Take.is)
-    (memory_kept c.args.ram.now z h (record { actor = actor; op = op.Take c.in-Take.i; outcome = c.take.result }) (λ a. rw c.take.ensures.no_run refl) ms)
+    memory_of _ z h actor _ _ _ c.in-Take.is (memory_kept c.args.ram.now z h (record { actor = actor; op = op.Take c.in-Take.i; outcome = c.take.result }) (λ a. rw c.take.ensures.no_run refl) ms)
 
 -- ---- what is refused, by the operation
 pub returns-in-EndEsb-clause-refused : goal.returns-in-EndEsb-clause-refused
