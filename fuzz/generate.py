@@ -2,8 +2,9 @@
 """Writes a random script that reaches far: queues that wrap, readers that lag, edges of memory, processors that are
 notified wherever their context is, moves out of turn, lines that are wrong.
 
-    fuzz/generate.py SEED       the script of a seed, always the same one
-    fuzz/generate.py deep       one long script: a queue of 2 MiB wraps, and is read across the wrap
+    fuzz/generate.py SEED                   the script of a seed, always the same one
+    fuzz/generate.py --escalation SEED      a script with ENDs that escalate, and with quiet, sync and drain
+    fuzz/generate.py deep                   one long script: a queue of 2 MiB wraps, and is read across the wrap
 
 A script is given to the model while it is made, so that the generator knows pairs and places; nothing else comes from
 the model. A scene makes a whole script; what one line may be is in `any_line`.
@@ -43,11 +44,20 @@ ODD_LINES = """start; end 0; END; end now; go; board 1; sources 1; unclaimed 0 0
 ODD_LINES = [line.strip() for line in ODD_LINES.replace("\n", ";").split(";")]
 
 
+ODD_ESCALATION_LINES = """0 quiet; 0 quiet 0 0; 0 quiet -1; 0 quiet 8192; 0 Quiet 0; 0 quite 0; quiet 0
+    0 quiet 4294967296; 0 sync; 0 sync 0 0; 0 sync 8192; 0 sync 0x; sync 0; 0 syncs 0; 0 drain 0; drain; 0 drains
+    0 Drain; 0 sync 4294967296; 0 endset 0 vev 0 0 0 0 7 0; 0 endset 0 ve 0 0 0 0 7; 0 endset 0 ve 0 0 0 0 7 0 0
+    0 endset 0 vbn 0 0 0 0 0 0; 0 endset 0 veu 0 0 0 0 0x100000007 0; 0 endset 0 VE 0 0 0 0 7 0
+    0 endset 0 vee 0 0 0 0 7 0; 0 endset 0 ve 0 0 0 0 7 0x100000000; 0 endset 0 ve 0 0 0 0 -1 0; 0 take; 0 escalate 0"""
+ODD_ESCALATION_LINES = [line.strip() for line in ODD_ESCALATION_LINES.replace("\n", ";").split(";")]
+
+
 class Script:
-    def __init__(self, seed):
+    def __init__(self, seed, escalation=False):
         self.random = random.Random(seed)
+        self.escalation = escalation
         self.lines = []
-        self.run = Run()
+        self.run = Run(escalation)
         self.broken = False  # a line was refused
         self.plain = False   # spell everything as one would write it
 
@@ -136,6 +146,9 @@ class Script:
         self.crew = pick.sample(self.processors, min(len(self.processors), most))  # the processors that are used most
         self.seats = pick.sample(self.threads, min(len(self.threads), pick.choice((1, 1, 2, 3))))  # likewise
         self.home = pick.randrange(max(1, self.size >> 12)) << 12  # where most queues are
+        if self.escalation:
+            last = self.ends[7::8]
+            self.relays = pick.sample(last, min(len(last), pick.choice((1, 1, 2))))  # to which ENDs escalate mostly
 
     # -- what stands where
 
@@ -183,6 +196,19 @@ class Script:
 
     # -- lines
 
+    def escalates(self, e):
+        """Letters behind the others, an END and a payload: how an END escalates."""
+        pick = self.random
+        if not self.escalation:
+            return "", 0, 0
+        if e % 8 == 7:
+            return pick.choice(("",) * 9 + ("u", "s", "us")), 0, 0
+        letters = pick.choice(("", "s", "u", "us", *("e",) * 8, *("eu",) * 4, *("es",) * 3, "eus"))
+        if "e" not in letters:
+            return letters, 0, 0
+        relay = pick.choice(self.relays if pick.randrange(12) else self.ends[7::8])
+        return letters, relay, pick.choice((0, 1, e, 0x7fffffff, pick.getrandbits(31), pick.getrandbits(8)))
+
     def configure(self, e=None, flags=None, shift=None, address=None):
         pick = self.random
         e = self.end() if e is None else e
@@ -190,8 +216,10 @@ class Script:
         if flags == "-":
             return self.work("endset", e, flags, 0, 0, 0, 0, 0, 0)
         target, priority = self.processor(), pick.randrange(8)
+        letters, relay, payload = self.escalates(e)
         if "q" not in flags or self.size == 0:
-            return self.work("endset", e, flags.replace("q", ""), target, priority, 0, 0, 0, 0)
+            flags = flags.replace("q", "") + letters
+            return self.work("endset", e, flags, target, priority, 0, 0, relay, payload)
         shift = shift or pick.choice((12,) * 14 + (16,) * 4 + (21, 24))
         if 1 << shift > self.size:
             shift = 12
@@ -199,7 +227,8 @@ class Script:
         if address is None:
             address = self.home + pick.choice((0,) * 6 + (0x1000, -0x1000, 0x2000))
             address = pick.choice((address, address, address, 0, last, pick.randrange(self.size)))
-        self.work("endset", e, flags, target, priority, min(max(address, 0), last) >> shift << shift, shift, 0, 0)
+        address = min(max(address, 0), last) >> shift << shift
+        self.work("endset", e, flags + letters, target, priority, address, shift, relay, payload)
 
     def assign(self, s=None, e=None):
         """Mostly so that the notices of the source reach the END."""
@@ -338,6 +367,75 @@ class Script:
         lines = (("cppr", t, value), 3), (("ack", t), 4), (("inject", t, priority), 3), (("regs", t), 3)
         self.work(*self.choose(lines))
 
+    # -- lines on escalation, and on what is outstanding
+
+    def relay(self):
+        """An END to which others escalate is configured, or what was written there is read."""
+        pick = self.random
+        e = pick.choice(self.relays)
+        if "q" in self.machine.ends[e].flags and pick.randrange(4):
+            return self.read(e)
+        self.configure(e, pick.choice(("vqnb",) * 4 + ("vqb", "vq", "vqn", "vnb", "vn", "-")), 12)
+
+    def reopen_either(self):
+        """Gives ESn or ESe its state back, or shows it, or takes it to another one."""
+        pick = self.random
+        e = pick.choice(self.relays) if pick.randrange(4) == 0 else self.end()
+        self.work("endload", e, pick.choice((0, 1, 1)), pick.choice((0xc00,) * 4 + (0, 0, 0x800, 0xd00, 0xe00, 0xf00)))
+
+    def owe(self):
+        """Notices that aren't routed yet."""
+        pick = self.random
+        s = self.source()
+        for _ in range(pick.choice((1, 1, 2, 3))):
+            self.work("set", s, "00")
+            self.work("trigger", s)
+
+    def quiet(self):
+        self.work("quiet", self.source())
+
+    def settle_all(self):
+        """What a drain or a sync does, and what is outstanding then."""
+        pick = self.random
+        self.work(*pick.choice((("drain",), ("sync", self.source()), ("sync", self.source()))))
+        if pick.randrange(2):
+            self.quiet()
+
+    def change(self):
+        """An END that is used most is configured anew, mostly while its messages are in flight."""
+        pick = self.random
+        moving = [message.end for message in self.machine.flight]
+        e = pick.choice(moving) if moving and pick.randrange(4) else self.end()
+        self.configure(e, pick.choice(("vnb", "vnb", "vn", "vn", "vb", "v", "vqn", "vq", "-")), 12)
+
+    def wrong_end(self):
+        """At a rule of the letters e, u and s, or beyond it."""
+        pick = self.random
+        inner, last = [e for e in self.ends if e % 8 < 7], list(self.ends[7::8])
+        e, relay, letters, payload = pick.choice(inner), pick.choice(last), pick.choice(("ve", "vneu", "ves")), 0
+        what = pick.choice((1, 2, 3, 3, 5, 5, 6, 6, 6, 7, 7, 9, 9, 10))
+        if what == 1:
+            payload = pick.choice((0x3fffffff, 0x7fffffff, 0x80000000, 0x80000000, 0xffffffff, 1 << 32, TOP - 1))
+        elif what == 2:
+            relay = pick.choice(inner)
+        elif what == 3:
+            relay = len(self.ends) + pick.choice((-1, 0, 7, 7, 7, 15, (1 << 32) + 7))
+        elif what == 5:
+            e = pick.choice(last)
+            relay = pick.choice((e, pick.choice(last)))
+        elif what == 6:
+            letters = pick.choice(("v", "vu", "vs", "vus", "vnb"))
+            relay, payload = pick.choice(((0, 1), (0, 1), (7, 0), (7, 0), (0, 0), (7, 1)))
+        elif what == 7:
+            letters, relay = pick.choice(("u", "s", "us", "e", "eus", "b", "-")), 0
+            payload = pick.choice((0, 0, 0, 1))
+        elif what == 9:
+            letters = pick.choice("vse vue vsu vsu vuse veb vee vees ev vE ve- vx vx vex".split())
+            relay = relay if "e" in letters else 0
+        else:
+            return self.work(pick.choice(("quiet", "sync")), self.count + pick.choice((-1, 0, 0, 0, 1, 1 << 32)))
+        self.work("endset", e, letters, self.processor() if "v" in letters else 0, 0, 0, 0, relay, payload)
+
     def raw(self):
         """A line of a source, whatever its pair is."""
         pick = self.random
@@ -352,6 +450,8 @@ class Script:
         lines = ((self.event, 29), (self.read, 25), (self.raw, 8), (self.peek, 8), (self.zero, 6), (self.assign, 5),
                  (self.configure, 5), (self.access, 8), (self.reopen, 2), (self.move, 4), (self.take, 3),
                  (self.ring, 3), (self.remark, 4))
+        if self.escalation:
+            lines += (self.relay, 4), (self.reopen_either, 3), (self.owe, 3), (self.quiet, 4), (self.settle_all, 2)
         self.choose(lines)()
 
     def choose(self, weighted):
@@ -561,7 +661,63 @@ class Script:
             self.work("settle")
         self.mix(10)
 
+    def relays_up(self):
+        """ENDs that escalate, the ENDs that they escalate to, and sources for the former."""
+        pick = self.random
+        self.header(1, crowd=pick.randrange(3) > 0)
+        self.crew_up()
+        for e in self.relays:
+            self.configure(e, pick.choice(("vqnb", "vqnb", "vqb", "vq", "vnb")), 12)
+        for v in self.crew:
+            for _ in range(pick.choice((0, 0, 0, 1, 2, 3))):
+                self.move_on(v)
+
+    def escalating(self):
+        self.relays_up()
+        pick = self.random
+        weights = pick.choice(((9, 6, 3, 4, 2, 1, 2, 1), (9, 9, 2, 6, 1, 1, 1, 1), (6, 3, 4, 4, 4, 4, 3, 2)))
+        lines = (self.event, self.take, self.relay, self.reopen_either, self.change, self.move, self.quiet,
+                 self.settle_all)
+        for _ in range(pick.choice((15, 40, 40, 120))):
+            self.choose(tuple(zip(lines, weights)))()
+        self.mix(pick.choice((0, 10)))
+
+    def changed_in_flight(self):
+        """Rounds of one event, whose messages are taken one by one while its END changes."""
+        self.relays_up()
+        pick = self.random
+        for _ in range(pick.choice((4, 12, 30))):
+            if pick.randrange(3):
+                self.change()
+            self.event()
+            for _ in range(pick.choice((1, 2, 3, 3, 4))):
+                if pick.randrange(2):
+                    self.choose(((self.change, 5), (self.relay, 2), (self.reopen_either, 2), (self.quiet, 1)))()
+                self.take()
+
+    def outstanding(self):
+        """Notices and messages of several sources, and how they become quiet."""
+        self.relays_up()
+        pick = self.random
+        for _ in range(pick.choice((2, 6, 15))):
+            for _ in range(pick.randrange(5)):
+                self.choose(((self.owe, 4), (self.event, 4), (self.take, 2), (self.reopen_either, 1)))()
+            for _ in range(pick.choice((0, 1, 1, 2))):
+                self.quiet()
+            if pick.randrange(2):
+                self.settle_all()
+        self.mix(pick.choice((0, 10)))
+
     # -- scenes with lines that are wrong
+
+    def refused_escalation(self):
+        self.header(crowd=self.random.randrange(2) == 1)
+        self.mix(self.random.choice((0, 0, 5)))
+        self.plain = True
+        odd = [line.encode() for line in ODD_ESCALATION_LINES]
+        for _ in range(self.random.choice((1, 1, 2, 4))):
+            self.choose(((self.wrong_end, 7), (lambda: self.feed(self.random.choice(odd)), 3)))()
+        self.mix(4)
 
     def wrong_number(self):
         """A number of a processor, a thread, a message or a byte at the end of its range, or beyond it."""
@@ -683,7 +839,7 @@ class Script:
             lines[-1:-1] = [kind + b" 0 0" for kind in pick.sample(kinds, pick.choice((2, 2, 2, 3)))]
         else:
             lines[at] = self.spoil(lines[at])
-        self.lines, self.run, self.broken = [], Run(), False
+        self.lines, self.run, self.broken = [], Run(self.escalation), False
         for line in lines:
             self.feed(line)
         if self.run.machine and not self.broken:
@@ -694,16 +850,20 @@ class Script:
     # -- the whole
 
     def bytes(self):
-        self.choose(((self.wrapping, 20), (self.wrapping_64_kib, 3), (self.full_bus, 4), (self.mixed, 10),
-                     (self.edges, 10), (self.one_page, 7), (self.reconfigured, 7), (self.contexts, 40),
-                     (self.windows, 15), (self.drained_bus, 2), (self.refused, 110), (self.refused_header, 45)))()
+        scenes = ((self.wrapping, 20), (self.wrapping_64_kib, 3), (self.full_bus, 4), (self.mixed, 10),
+                  (self.edges, 10), (self.one_page, 7), (self.reconfigured, 7), (self.contexts, 40),
+                  (self.windows, 15), (self.drained_bus, 2), (self.refused, 110), (self.refused_header, 45))
+        if self.escalation:
+            scenes += ((self.escalating, 120), (self.changed_in_flight, 90), (self.outstanding, 60),
+                       (self.refused_escalation, 120))
+        self.choose(scenes)()
         return b"\n".join(self.lines) + self.random.choice((
             b"", b"\n", b"\nend", b"\nend\n", b"\nend\n", b"\n\n# the end\n  \n",
             b"\n  end \nread 0\n\xff\n" + b"#" * 300 + b"\n0 read 0\n"))
 
 
-def generate(seed):
-    return Script(seed).bytes()
+def generate(seed, escalation=False):
+    return Script(seed, escalation).bytes()
 
 
 def deep():
@@ -715,9 +875,11 @@ def deep():
 
 
 def main():
-    if len(sys.argv) != 2:
-        sys.exit("usage: fuzz/generate.py SEED|deep")
-    sys.stdout.buffer.write(deep() if sys.argv[1] == "deep" else generate(int(sys.argv[1])))
+    escalation = sys.argv[1:2] == ["--escalation"]
+    words = sys.argv[1 + escalation:]
+    if len(words) != 1:
+        sys.exit("usage: fuzz/generate.py [--escalation] SEED, or fuzz/generate.py deep")
+    sys.stdout.buffer.write(deep() if words == ["deep"] else generate(int(words[0]), escalation))
 
 
 if __name__ == "__main__":

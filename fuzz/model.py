@@ -1,12 +1,15 @@
 #!/usr/bin/env python3
 """What `xive_cli run` has to write of a script: a second opinion, worked out from docs/FORMATS.md alone.
 
-    fuzz/model.py < SCRIPT      writes the account; the exit status is 0 (done), 2 (refused) or 7 (too long)
+    fuzz/model.py [--escalation] < SCRIPT
+                                writes the account; the exit status is 0 (done), 2 (refused) or 7 (too long)
 
-`run(script)` answers both, of bytes. Streams that fail and too little memory are not in it.
+`run(script)` answers both, of bytes. The letters e, u and s and the lines `quiet`, `sync` and `drain` are in the
+language only with `--escalation`. Streams that fail and too little memory are not in it.
 """
 import re
 import sys
+from collections import namedtuple
 
 MOST_BYTES = 16777216
 MOST_IN_A_LINE = 256
@@ -17,7 +20,7 @@ MOST_IN_FLIGHT = 4096
 
 DECIMAL = re.compile(r"[0-9]{1,20}\Z")
 HEXADECIMAL = re.compile(r"0[xX][0-9a-fA-F]{1,16}\Z")
-LETTERS = re.compile(r"-\Z|(?=.)v?q?n?b?\Z")
+LETTERS = re.compile(r"-\Z|(?=.)v?q?n?b?e?u?s?\Z")
 BAD_BYTE = re.compile(rb"[^\x20-\x7e]")
 
 
@@ -133,15 +136,17 @@ class Source:
 
 class End:
     def __init__(self):
-        self.configure("-", 0, 0, 0, 0)
+        self.configure("-", 0, 0, 0, 0, 0, 0)
 
-    def configure(self, flags, v, priority, address, shift):
+    def configure(self, flags, v, priority, address, shift, escalation, payload):
         """Both states are 00 with v, else 01; nothing was written since, and nothing taken."""
         self.flags = flags
         self.v = v
         self.priority = priority
         self.address = address
         self.shift = shift
+        self.escalation = escalation  # the END that it escalates to, and what is written there
+        self.payload = payload
         self.states = ["00", "00"] if "v" in flags else ["01", "01"]
         self.written = 0
         self.taken = 0
@@ -172,6 +177,11 @@ class End:
             return "empty"
         self.taken += 1
         return f"item {word & 0x7fffffff:#x}"
+
+
+# What is in flight: the source that it comes from, its END, and of the END what was configured when it was made. It
+# presents, or else it escalates.
+Message = namedtuple("Message", "escalates origin end flags v priority escalation payload")
 
 
 # ---- processors and threads ------------------------------------------------------------------------------------------
@@ -297,9 +307,11 @@ class Board:
 LINES = {line.split()[0]: line.split()[1:] for line in (
     "trigger S", "eoi S", "get S", "set S PQ", "raise S", "lower S", "init S A", "load S PAGE OFFSET",
     "store S PAGE OFFSET", "route S", "fire S", "finish S", "assert S", "hcall N N N N N N",
-    "endset E FLAGS V N N N N N", "endload E END-PAGE OFFSET", "endstore E END-PAGE OFFSET", "read E", "peek N",
+    "endset E FLAGS V N N N E N", "endload E END-PAGE OFFSET", "endstore E END-PAGE OFFSET", "read E", "peek N",
     "zero N N", "connect V", "restore V T", "push T V", "pull T", "save V", "take I", "settle", "cppr T BYTE", "ack T",
-    "inject T BYTE", "regs T")}
+    "inject T BYTE", "regs T", "quiet S", "sync S", "drain")}
+LATER_LINES = "quiet", "sync", "drain"
+LATER_FLAGS = set("eus")
 
 
 def is_among(n, ranges):
@@ -307,8 +319,9 @@ def is_among(n, ranges):
 
 
 class Machine:
-    def __init__(self, board, out):
+    def __init__(self, board, out, escalation):
         self.out = out
+        self.escalation = escalation  # whether the later lines and flags are in the language
         self.counts = board.counts
         self.pages, self.store_eoi = board.esb
         self.memory = Memory(board.counts["ram"])
@@ -317,7 +330,7 @@ class Machine:
         self.processors = [Processor(not is_among(v, board.unconnected)) for v in range(board.counts["processors"])]
         self.threads = [Thread() for _ in range(board.counts["threads"])]
         self.ends = [End() for _ in range(8 * len(self.processors))]
-        self.flight = []  # of each message the processor, the priority and whether it has b, in the order made
+        self.flight = []  # the messages in the order made
         self.count = 0
         self.actor = 0
         self.most = {"S": len(self.sources) - 1, "E": len(self.ends) - 1, "V": len(self.processors) - 1,
@@ -328,6 +341,8 @@ class Machine:
         """Reads a work line, and makes its entries."""
         self.actor = within(words[0], 0, self.counts["actors"] - 1)
         if len(words) < 2 or words[1] not in LINES or len(words) - 2 != len(LINES[words[1]]):
+            raise Refused
+        if words[1] in LATER_LINES and not self.escalation:
             raise Refused
         fields = [self.field(name, word) for name, word in zip(LINES[words[1]], words[2:])]
         getattr(self, "line_" + words[1])(*fields)
@@ -454,10 +469,14 @@ class Machine:
     def line_endset(self, e, flags, v, priority, address, shift, escalation, payload):
         if "v" not in flags and (flags, v, priority) != ("-", 0, 0):
             raise Refused
-        if priority > 7 or not self.takes_queue(flags, address, shift) or escalation or payload:
+        if LATER_FLAGS & set(flags) and not self.escalation:
             raise Refused
-        self.ends[e].configure(flags, v, priority, address, shift)
-        self.entry(f"endset {e} {flags} {v} {priority} {address:#x} {shift} 0 0x0", "ok")
+        if priority > 7 or not self.takes_queue(flags, address, shift):
+            raise Refused
+        if not self.takes_escalation(e, flags, escalation, payload):
+            raise Refused
+        self.ends[e].configure(flags, v, priority, address, shift, escalation, payload)
+        self.entry(f"endset {e} {flags} {v} {priority} {address:#x} {shift} {escalation} {payload:#x}", "ok")
 
     def takes_queue(self, flags, address, shift):
         """The queue is aligned and lies within the memory; without q the numbers are 0."""
@@ -465,13 +484,21 @@ class Machine:
             return address == 0 and shift == 0
         return shift in (12, 16, 21, 24) and address % (1 << shift) == 0 and address + (1 << shift) <= self.memory.size
 
+    @staticmethod
+    def takes_escalation(e, flags, escalation, payload):
+        """The last END of each eight is escalated to, and doesn't escalate; without e the numbers are 0."""
+        if "e" not in flags:
+            return escalation == 0 and payload == 0
+        return e % 8 != 7 and escalation % 8 == 7 and payload < 1 << 31
+
     # -- routes
 
     def line_route(self, s):
-        self.entry(f"route {s}", self.routed(self.sources[s]))
+        self.entry(f"route {s}", self.routed(s))
 
-    def routed(self, source):
+    def routed(self, s):
         """The first of these that holds decides."""
+        source = self.sources[s]
         if source.outstanding() == 0:
             return "no-notice"
         if len(self.flight) == MOST_IN_FLIGHT:
@@ -481,21 +508,48 @@ class Machine:
             return f"{source.routes} no-source"
         if source.masked:
             return f"{source.routes} masked"
-        return f"{source.routes} end {source.end} {self.end_pass(self.ends[source.end], source.payload)}"
+        return f"{source.routes} {self.end_pass(source.end, source.payload, s)}"
 
-    def end_pass(self, end, payload):
-        """Writes with q; then presents, but without n only where ESn is 00."""
+    def end_pass(self, e, payload, origin):
+        """Writes with q; then with s escalates or is silent; else presents, but without n only where ESn is 00."""
+        end = self.ends[e]
         if "v" not in end.flags:
-            return "no-end"
-        wrote = "unwritten"
+            return f"end {e} no-end"
+        wrote = f"end {e} unwritten"
         if "q" in end.flags:
-            wrote = "wrote {:#x} {:#x}".format(*end.enqueue(self.memory, payload))
+            wrote = "end {} wrote {:#x} {:#x}".format(e, *end.enqueue(self.memory, payload))
+        message = Message("s" in end.flags, origin, e, end.flags, end.v, end.priority, end.escalation, end.payload)
+        if message.escalates:
+            if "e" not in end.flags:
+                return wrote + " silent"
+            self.flight.append(message)
+            return wrote + " escalate"
         if "n" not in end.flags:
             end.states[0], notifies = TRIGGER[end.states[0]]
             if not notifies:
                 return wrote + " coalesced"
-        self.flight.append((end.v, end.priority, "b" in end.flags))
+        self.flight.append(message)
         return wrote + " present"
+
+    def line_quiet(self, s):
+        notices = self.sources[s].outstanding()
+        messages = sum(message.origin == s for message in self.flight)
+        self.entry(f"quiet {s}", f"busy {notices} {messages}" if notices or messages else "quiet")
+
+    def line_sync(self, s):
+        self.line_settle()
+        self.route_all(s)
+        self.line_quiet(s)
+
+    def line_drain(self):
+        self.line_settle()
+        for s in range(len(self.sources)):
+            self.route_all(s)
+
+    def route_all(self, s):
+        while self.sources[s].outstanding():
+            self.line_route(s)
+            self.line_settle()
 
     # -- messages
 
@@ -504,14 +558,33 @@ class Machine:
         found = i < len(self.flight)
         outcome = "no-message"
         if found:
-            v, priority, kept = self.flight.pop(i)
-            outcome = f"present {v} {priority} {self.present(self.processors[v], pending_bit(priority), kept)}"
+            message = self.flight.pop(i)
+            outcome = self.escalated(message) if message.escalates else self.presented(message)
         self.entry(f"take {i}", outcome)
         return found
 
     def line_settle(self):
         while self.line_take(0):
             pass
+
+    def presented(self, message):
+        """Whom it doesn't find it escalates for, as the END was when the message was made."""
+        bit, kept = pending_bit(message.priority), "b" in message.flags
+        how = self.present(self.processors[message.v], bit, kept)
+        text = f"present {message.v} {message.priority} {how}"
+        if "e" in message.flags and how in ("backlogged", "lost"):
+            self.flight.append(message._replace(escalates=True))
+            text += " escalate"
+        return text
+
+    def escalated(self, message):
+        """Without u only where ESe of the END is 00, as it is at the take."""
+        states = self.ends[message.end].states
+        if "u" not in message.flags:
+            states[1], goes_on = TRIGGER[states[1]]
+            if not goes_on:
+                return f"escalate {message.end} coalesced"
+        return f"escalate {message.end} {self.end_pass(message.escalation, message.payload, message.origin)}"
 
     def present(self, processor, bit, kept):
         """The first of these that holds decides; it is as the processor is at the take."""
@@ -659,7 +732,8 @@ class Machine:
 
 
 class Run:
-    def __init__(self):
+    def __init__(self, escalation=False):
+        self.escalation = escalation
         self.board = Board()
         self.machine = None
         self.out = []
@@ -677,7 +751,7 @@ class Run:
         elif self.machine is not None:
             self.machine.line(words)
         elif self.board.feed(words):
-            self.machine = Machine(self.board, self.out)
+            self.machine = Machine(self.board, self.out, self.escalation)
             self.out += ["xive-account 1"] + self.board.text()
 
     def all(self, script):
@@ -708,14 +782,16 @@ class Run:
         return 0
 
 
-def run(script):
-    this = Run()
+def run(script, escalation=False):
+    this = Run(escalation)
     status = this.all(script)
     return ("\n".join(this.out) + "\n").encode("ascii"), status
 
 
 def main():
-    written, status = run(sys.stdin.buffer.read())
+    if sys.argv[1:] not in ([], ["--escalation"]):
+        sys.exit("usage: fuzz/model.py [--escalation] < SCRIPT")
+    written, status = run(sys.stdin.buffer.read(), len(sys.argv) == 2)
     sys.stdout.buffer.write(written)
     sys.exit(status)
 
