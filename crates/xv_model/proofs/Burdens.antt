@@ -30,6 +30,15 @@ use Rattle.xv_model.specs.route.Flight.{messages_by, made_by, source_of, taken_i
 use Rattle.xv_model.specs.route.Routing.{route_outcome, routed_by}
 use Rattle.xv_model.specs.route.Taking.{is_undelivered, taken_by, take_outcome, presented_to}
 use Rattle.xv_model.specs.source.Eas.{eas}
+use Rattle.std.specs.Prelude.{All, ◌||◌}
+use Rattle.xv_model.specs.source.PqTable.{trigger_row}
+use Rattle.xv_model.specs.end.Flags.{always_notifies, escalates, is_silent, is_valid}
+use Rattle.xv_model.specs.end.EventStates.{esn, ese}
+use Rattle.xv_model.specs.end.Written.{written_count}
+use Rattle.xv_model.specs.route.Routing.{end_pass, next_by, write_by}
+use Rattle.xv_model.specs.route.Taking.{escalates_on}
+use Rattle.xv_model.specs.account.Fit.{IsFitConfig, IsFit, IsFitStart}
+use Rattle.xv_model.proofs.FlightRanges.{configs_fit, messages_fit, fit_at}
 use Rattle.xv_model.proofs.Sums.{sum_below-more_at}
 
 -- the weight of messages and more messages
@@ -49,7 +58,7 @@ light_by Coalesced e c s = omega arith
 light_by Silent e c s = omega arith
 
 -- what is made for a route weighs 3 or less
-light : (z : Start) (h : List Entry) (s : ℕ) (m : Option EndRun) → weight (made_by z h s m) ≤ 3
+pub light : (z : Start) (h : List Entry) (s : ℕ) (m : Option EndRun) → weight (made_by z h s m) ≤ 3
 light z h s (Some (run.Ran e wrote next)) = light_by next e (end_config z h e) s
 light z h s (Some (run.NoEnd e)) = omega arith
 light z h s None = omega arith
@@ -200,10 +209,29 @@ rises z h x =
     let messages : weight (flight z (x ∷ h)) ≤ weight (flight z h) + most_weight x.op = messages_after_op z h x.op x.outcome (flight z h) in
     omega (arith, notices, messages, light_touch z x.actor x.op x.outcome)
 
+-- an END that doesn't escalate makes one message at most, which doesn't escalate either
+unescalated : (c : EndConfig) (e s : ℕ) (state : ℕ) → escalates c ≡ false → weight (messages_by (next_by c state) e c s) < 2
+unescalated c e s state off = by (is_silent c) (always_notifies c || (trigger_row state).forwards)
+  where
+    by : (silent notifies : Bool) → weight (messages_by (if silent then (if escalates c then Escalate else Silent) else (if notifies then Present else Coalesced)) e c s) < 2
+    by true notifies = rw off (omega arith)
+    by false true = rw off (omega arith)
+    by false false = omega arith
+
+-- what an escalation makes weighs less than it, since an escalation END doesn't escalate
+escalated_lighter : (z : Start) (h : List Entry) (e i esc esc_eisn origin : ℕ) (on : Bool) → escalates (end_config z h esc) ≡ false →
+    weight (made_by z h origin (run_of (op.Take i) (out.Escalated e (if on then Some (end_pass z h esc esc_eisn) else None)))) < 2
+escalated_lighter z h e i esc esc_eisn origin true off = by (is_valid (end_config z h esc))
+  where
+    by : (v : Bool) → weight (made_by z h origin (Some (if v then run.Ran esc (write_by (end_config z h esc) (written_count z h esc) esc_eisn) (next_by (end_config z h esc) (esn z h esc)) else run.NoEnd esc))) < 2
+    by true = unescalated (end_config z h esc) esc origin (esn z h esc) off
+    by false = omega arith
+escalated_lighter z h e i esc esc_eisn origin false off = omega arith
+
 -- what a take makes of a message that it found weighs less than that message
-made_lighter : (z : Start) (h : List Entry) (i n : ℕ) (m : Message) (u : Outcome) → u ≡ taken_by z h m → taken_in (op.Take i) u ≡ Some n →
+made_lighter : (z : Start) (h : List Entry) (i n : ℕ) (m : Message) (u : Outcome) → ((e : ℕ) → IsFitConfig e (end_config z h e)) → IsFit m → u ≡ taken_by z h m → taken_in (op.Take i) u ≡ Some n →
     weight (if is_escalating u then escalation_of m else made_by z h (source_of m) (run_of (op.Take i) u)) < weight_of m
-made_lighter z h i n (message.Present e flags vp priority esc esc_eisn origin) u is taken =
+made_lighter z h i n (message.Present e flags vp priority esc esc_eisn origin) u w fit is taken =
     rw is (by (is_undelivered (presented_to z h (keeps_backlog flags) vp)) (may_escalate flags))
   where
     by : (undelivered b : Bool) → weight (if undelivered && b then message.Escalate e flags esc esc_eisn origin ∷ [] else []) < (if b then 3 else 1)
@@ -211,7 +239,8 @@ made_lighter z h i n (message.Present e flags vp priority esc esc_eisn origin) u
     by true false = omega arith
     by false true = omega arith
     by false false = omega arith
-made_lighter z h i n (message.Escalate e flags esc esc_eisn origin) u is taken = cc
+made_lighter z h i n (message.Escalate e flags esc esc_eisn origin) u w fit is taken =
+    rw is (escalated_lighter z h e i esc esc_eisn origin (escalates_on flags (ese z h e)) ((w esc).last (fit.escalation refl)))
 
 -- a take that found a message took the one that it asked for
 taken_is : (i n : ℕ) (u : Outcome) → taken_in (op.Take i) u ≡ Some n → taken_in (op.Take i) u ≡ Some i
@@ -220,22 +249,22 @@ taken_is i n (out.Escalated e' run) e = refl
 taken_is i n _ e = cc
 
 -- the messages after one of them was taken weigh less
-take_lighter : (z : Start) (h : List Entry) (i n : ℕ) (ms : List Message) (found : Option Message) (u : Outcome) → slice_get ms i ≡ found → u ≡ option_map_or (taken_by z h) found out.NoMessage → taken_in (op.Take i) u ≡ Some n →
+pub take_lighter : (z : Start) (h : List Entry) (i n : ℕ) (ms : List Message) (found : Option Message) (u : Outcome) → ((e : ℕ) → IsFitConfig e (end_config z h e)) → All IsFit ms → slice_get ms i ≡ found → u ≡ option_map_or (taken_by z h) found out.NoMessage → taken_in (op.Take i) u ≡ Some n →
     weight (messages_after z h (op.Take i) u ms) < weight ms
-take_lighter z h i n ms None u at is taken = cc
-take_lighter z h i n ms (Some m) u at is taken =
-    rw (at, taken_is i n u taken) (omega (arith, weight-append (remove ms i) (if is_escalating u then escalation_of m else made_by z h (source_of m) (run_of (op.Take i) u)), removed ms i m at, made_lighter z h i n m u is taken))
+take_lighter z h i n ms None u w fit at is taken = cc
+take_lighter z h i n ms (Some m) u w fit at is taken =
+    rw (at, taken_is i n u taken) (omega (arith, weight-append (remove ms i) (if is_escalating u then escalation_of m else made_by z h (source_of m) (run_of (op.Take i) u)), removed ms i m at, made_lighter z h i n m u w (fit_at ms i m fit at) is taken))
 
 -- a take that found a message brings the burden down, by its outcome
-take_falls_by : (z : Start) (h : List Entry) (actor i n : ℕ) (u : Outcome) → u ≡ take_outcome z h i → taken_in (op.Take i) u ≡ Some n → burden z (record { actor = actor; op = op.Take i; outcome = u } ∷ h) < burden z h
-take_falls_by z h actor i n u is taken =
+take_falls_by : (z : Start) (h : List Entry) (actor i n : ℕ) (u : Outcome) → IsLegal z h → IsFitStart z → u ≡ take_outcome z h i → taken_in (op.Take i) u ≡ Some n → burden z (record { actor = actor; op = op.Take i; outcome = u } ∷ h) < burden z h
+take_falls_by z h actor i n u l w is taken =
     let x : Entry = record { actor = actor; op = op.Take i; outcome = u } in
     let notices : all_outstanding z (x ∷ h) ≤ all_outstanding z h + 0 = notices_made None None (forwards z h) (routes z h) z.board.limits.sources in
-    omega (arith, notices, take_lighter z h i n (flight z h) (slice_get (flight z h) i) u refl is taken)
+    omega (arith, notices, take_lighter z h i n (flight z h) (slice_get (flight z h) i) u (configs_fit z h l w) (messages_fit z h l w) refl is taken)
 
 -- a take that found a message brings the burden down
-pub take_falls : (z : Start) (h : List Entry) (x : Entry) (i n : ℕ) → IsLegal z (x ∷ h) → x.op ≡ op.Take i → taken_in x.op x.outcome ≡ Some n → burden z (x ∷ h) < burden z h
-take_falls z h x i n l e taken =
+pub take_falls : (z : Start) (h : List Entry) (x : Entry) (i n : ℕ) → IsFitStart z → IsLegal z (x ∷ h) → x.op ≡ op.Take i → taken_in x.op x.outcome ≡ Some n → burden z (x ∷ h) < burden z h
+take_falls z h x i n w l e taken =
     let y : Entry = record { actor = x.actor; op = op.Take i; outcome = x.outcome } in
     let same : x ≡ y = ap (λ o. record { actor = x.actor; op = o; outcome = x.outcome }) e in
-    subst (λ v. burden z (v ∷ h) < burden z h) (sym same) (take_falls_by z h x.actor i n x.outcome (l.1.outcome ∙ ap (legal z h) e) (subst (λ o. taken_in o x.outcome ≡ Some n) e taken))
+    subst (λ v. burden z (v ∷ h) < burden z h) (sym same) (take_falls_by z h x.actor i n x.outcome l.0 w (l.1.outcome ∙ ap (legal z h) e) (subst (λ o. taken_in o x.outcome ≡ Some n) e taken))

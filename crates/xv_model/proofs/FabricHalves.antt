@@ -22,13 +22,13 @@ use Rattle.xv_model.specs.source.Notices.{forwards, routes, outstanding}
 use Rattle.xv_model.specs.end.Flags.{is_valid, enqueues}
 use Rattle.xv_model.specs.source.Eas.{source_config_in, eas_by, eas}
 use Rattle.xv_model.specs.end.Descriptors.{configuration_in, config_at, config_by, end_config, since_config, until_config}
-use Rattle.xv_model.specs.end.EventStates.{first_state, ran_at, asks_state, load_in, load_at, load_by, esn, ese}
+use Rattle.xv_model.specs.end.EventStates.{first_state, ran_at, asks_state, asked_end, load_in, load_at, load_by, esn, ese}
 use Rattle.xv_model.specs.end.Pages.{loaded, end_page_answer}
-use Rattle.xv_model.specs.end.Written.{wrote_in, payload_of, written, written_count}
+use Rattle.xv_model.specs.end.Written.{wrote_in, payload_in, payload_of, written, written_count}
 use Rattle.xv_model.specs.end.Memory.{place, zeroed_in, word_by, word_at, peek_outcome}
 use Rattle.xv_model.specs.end.Reading.{item_in, taken, taken_count, read_by, read_outcome}
 use Rattle.xv_model.specs.board.Validity.{ram_size, fits}
-use Rattle.xv_model.specs.route.Flight.{made_by, messages_by, source_of, taken_in, is_escalating, escalation_of, made, without, messages_after, flight}
+use Rattle.xv_model.specs.route.Flight.{made_by, messages_by, source_of, taken_in, message_in, is_escalating, escalation_of, made, without, messages_after, flight}
 use Rattle.xv_model.specs.route.Routing.{write_by, next_by, end_pass, routed_by, route_outcome}
 use Rattle.xv_model.specs.route.Quiet.{messages_of, quiet_by, quiet_answer}
 use Rattle.xv_model.specs.processor.Phases.{connected_in, is_connected}
@@ -58,6 +58,11 @@ no_messages : (z : Start) (h : List Entry) (o : Op) (u : Outcome) (ms : List Mes
 no_messages z h (op.Route s) u ms other = cc
 no_messages z h (op.Take i) u ms other = cc
 no_messages z h _ u ms other = append-nil ms
+
+-- an operation that isn't the fabric's takes no message
+no_taken : (b : Board) (o : Op) (u : Outcome) → is_fabric b o ≡ false → taken_in o u ≡ None
+no_taken b (op.Take i) u other = cc
+no_taken b _ u other = refl
 
 -- an operation that isn't the fabric's connects no processor
 no_connection : (b : Board) (o : Op) (u : Outcome) → is_fabric b o ≡ false → connected_in o u ≡ None
@@ -113,7 +118,7 @@ esn-skips z e x h other = rw (no_config_by z.board e x other, no_load_by z.board
 
 -- an entry that isn't the fabric's leaves the state of escalations of e
 pub ese-skips : (z : Start) (e : ℕ) (x : Entry) (h : List Entry) → is_fabric z.board x.op ≡ false → ese z (x ∷ h) e ≡ ese z h e
-ese-skips z e x h other = rw (no_config_by z.board e x other, no_load_by z.board 1 e x other) refl
+ese-skips z e x h other = rw (no_config_by z.board e x other, no_load_by z.board 1 e x other, no_taken z.board x.op x.outcome other) refl
 
 -- an entry that isn't the fabric's leaves what was written for e
 pub written-skips : (z : Start) (e : ℕ) (x : Entry) (h : List Entry) → is_fabric z.board x.op ≡ false → written z (x ∷ h) e ≡ written z h e
@@ -147,6 +152,41 @@ eas-half z s = half (λ x. is_fabric z.board x.op) (λ h. eas z h s) (λ x h. ap
 pub end_config-half : (z : Start) (e : ℕ) (h : List Entry) → end_config z (fabric_of z.board h) e ≡ end_config z h e
 end_config-half z e = half (λ x. is_fabric z.board x.op) (λ h. end_config z h e) (λ x h. ap (option_map_or (λ c. c) (config_by e x))) (end_config-skips z e)
 
+-- an entry that isn't the fabric's connects no processor
+pub is_connected-skips : (z : Start) (v : ℕ) (x : Entry) (h : List Entry) → is_fabric z.board x.op ≡ false → is_connected z (x ∷ h) v ≡ is_connected z h v
+is_connected-skips z v x h other = rw (no_connection z.board x.op x.outcome other) refl
+
+-- whether v is connected is what the fabric's entries say
+pub is_connected-half : (z : Start) (v : ℕ) (h : List Entry) → is_connected z (fabric_of z.board h) v ≡ is_connected z h v
+is_connected-half z v = half (λ x. is_fabric z.board x.op) (λ h. is_connected z h v) (λ x h. ap (λ before. option_map_or (λ u. u == v) (connected_in x.op x.outcome) false || before)) (is_connected-skips z v)
+
+-- the message that a pass makes after the fabric's entries is the one that it makes after the account
+made_by-half : (z : Start) (h : List Entry) (s : ℕ) (r : Option EndRun) → made_by z (fabric_of z.board h) s r ≡ made_by z h s r
+made_by-half z h s (Some (run.Ran e wrote next)) = ap (λ c. messages_by next e c s) (end_config-half z e h)
+made_by-half z h s (Some (run.NoEnd e)) = refl
+made_by-half z h s None = refl
+
+-- the message that is made of one that was taken
+made_of-half : (z : Start) (h : List Entry) (escalates : Bool) (r : Option EndRun) (m : Option Message) →
+    option_map_or (λ n. if escalates then escalation_of n else made_by z (fabric_of z.board h) (source_of n) r) m [] ≡ option_map_or (λ n. if escalates then escalation_of n else made_by z h (source_of n) r) m []
+made_of-half z h true r m = refl
+made_of-half z h false r (Some n) = made_by-half z h (source_of n) r
+made_of-half z h false r None = refl
+
+-- what an operation makes after the fabric's entries it makes after the account
+made-half : (z : Start) (h : List Entry) (o : Op) (u : Outcome) (ms : List Message) → made z (fabric_of z.board h) o u ms ≡ made z h o u ms
+made-half z h (op.Route s) u ms = made_by-half z h s (run_of (op.Route s) u)
+made-half z h (op.Take i) u ms = made_of-half z h (is_escalating u) (run_of (op.Take i) u) (slice_get ms i)
+made-half z h _ u ms = refl
+
+-- so it leaves the same messages
+pub messages_after-half : (z : Start) (h : List Entry) (o : Op) (u : Outcome) (ms : List Message) → messages_after z (fabric_of z.board h) o u ms ≡ messages_after z h o u ms
+messages_after-half z h o u ms = ap (λ more. without (taken_in o u) ms ++ more) (made-half z h o u ms)
+
+-- the messages in flight are those of the fabric's entries
+pub flight-half : (z : Start) (h : List Entry) → flight z (fabric_of z.board h) ≡ flight z h
+flight-half z = half (λ x. is_fabric z.board x.op) (flight z) (λ x h so_far. ap (messages_after z (fabric_of z.board h) x.op x.outcome) so_far ∙ messages_after-half z h x.op x.outcome (flight z h)) (flight-skips z)
+
 -- a number that goes on until e is configured is that of the fabric's entries
 pub until_config-half : (z : Start) (n e : ℕ) (h : List Entry) → until_config n (fabric_of z.board h) e ≡ until_config n h e
 until_config-half z n e = half (λ x. is_fabric z.board x.op) (λ h. until_config n h e) (λ x h. ap (option_map_or (λ c. 0) (config_by e x))) (until_config-skips z n e)
@@ -176,11 +216,12 @@ esn-half z e = half (λ x. is_fabric z.board x.op) (λ h. esn z h e) (λ x h so_
 
 -- the state of escalations of e is that of the fabric's entries
 pub ese-half : (z : Start) (e : ℕ) (h : List Entry) → ese z (fabric_of z.board h) e ≡ ese z h e
-ese-half z e = half (λ x. is_fabric z.board x.op) (λ h. ese z h e) (λ x h so_far. λ i. option_map_or first_state (config_by e x) (option_map_or (λ new. new) (load_by 1 e x) (so_far i))) (ese-skips z e)
+ese-half z e = half (λ x. is_fabric z.board x.op) (λ h. ese z h e) (λ x h so_far. λ i. option_map_or first_state (config_by e x) (option_map_or (λ new. new) (load_by 1 e x) (if option_map_or (λ end. end == e) (asked_end (message_in (flight-half z h i) x.op x.outcome)) false then (trigger_row (so_far i)).pair else so_far i))) (ese-skips z e)
 
 -- what an operation routes after the fabric's entries is what it routes after the account
 payload_of-half : (z : Start) (h : List Entry) (o : Op) → payload_of z (fabric_of z.board h) o ≡ payload_of z h o
 payload_of-half z h (op.Route s) = ap (λ a. a.eisn ∷ []) (eas-half z s h)
+payload_of-half z h (op.Take i) = ap (λ ms. option_map_or payload_in (slice_get ms i) []) (flight-half z h)
 payload_of-half z h _ = refl
 
 -- what an access to a page of e answers after the fabric's entries is what it answers after the account
@@ -221,41 +262,6 @@ read_outcome-half z e h =
 -- what looking at a word answers after the fabric's entries is what it answers after the account
 pub peek_outcome-half : (z : Start) (a : ℕ) (h : List Entry) → peek_outcome z (fabric_of z.board h) a ≡ peek_outcome z h a
 peek_outcome-half z a h = λ i. if fits (ram_size z.board) a 4 then out.Cell (word_at-half z a h i) else out.BadRange
-
--- an entry that isn't the fabric's connects no processor
-pub is_connected-skips : (z : Start) (v : ℕ) (x : Entry) (h : List Entry) → is_fabric z.board x.op ≡ false → is_connected z (x ∷ h) v ≡ is_connected z h v
-is_connected-skips z v x h other = rw (no_connection z.board x.op x.outcome other) refl
-
--- whether v is connected is what the fabric's entries say
-pub is_connected-half : (z : Start) (v : ℕ) (h : List Entry) → is_connected z (fabric_of z.board h) v ≡ is_connected z h v
-is_connected-half z v = half (λ x. is_fabric z.board x.op) (λ h. is_connected z h v) (λ x h. ap (λ before. option_map_or (λ u. u == v) (connected_in x.op x.outcome) false || before)) (is_connected-skips z v)
-
--- the message that a pass makes after the fabric's entries is the one that it makes after the account
-made_by-half : (z : Start) (h : List Entry) (s : ℕ) (r : Option EndRun) → made_by z (fabric_of z.board h) s r ≡ made_by z h s r
-made_by-half z h s (Some (run.Ran e wrote next)) = ap (λ c. messages_by next e c s) (end_config-half z e h)
-made_by-half z h s (Some (run.NoEnd e)) = refl
-made_by-half z h s None = refl
-
--- the message that is made of one that was taken
-made_of-half : (z : Start) (h : List Entry) (escalates : Bool) (r : Option EndRun) (m : Option Message) →
-    option_map_or (λ n. if escalates then escalation_of n else made_by z (fabric_of z.board h) (source_of n) r) m [] ≡ option_map_or (λ n. if escalates then escalation_of n else made_by z h (source_of n) r) m []
-made_of-half z h true r m = refl
-made_of-half z h false r (Some n) = made_by-half z h (source_of n) r
-made_of-half z h false r None = refl
-
--- what an operation makes after the fabric's entries it makes after the account
-made-half : (z : Start) (h : List Entry) (o : Op) (u : Outcome) (ms : List Message) → made z (fabric_of z.board h) o u ms ≡ made z h o u ms
-made-half z h (op.Route s) u ms = made_by-half z h s (run_of (op.Route s) u)
-made-half z h (op.Take i) u ms = made_of-half z h (is_escalating u) (run_of (op.Take i) u) (slice_get ms i)
-made-half z h _ u ms = refl
-
--- so it leaves the same messages
-pub messages_after-half : (z : Start) (h : List Entry) (o : Op) (u : Outcome) (ms : List Message) → messages_after z (fabric_of z.board h) o u ms ≡ messages_after z h o u ms
-messages_after-half z h o u ms = ap (λ more. without (taken_in o u) ms ++ more) (made-half z h o u ms)
-
--- the messages in flight are those of the fabric's entries
-pub flight-half : (z : Start) (h : List Entry) → flight z (fabric_of z.board h) ≡ flight z h
-flight-half z = half (λ x. is_fabric z.board x.op) (flight z) (λ x h so_far. ap (messages_after z (fabric_of z.board h) x.op x.outcome) so_far ∙ messages_after-half z h x.op x.outcome (flight z h)) (flight-skips z)
 
 -- a pass of e after the fabric's entries is the one after the account
 pub end_pass-half : (z : Start) (e payload : ℕ) (h : List Entry) → end_pass z (fabric_of z.board h) e payload ≡ end_pass z h e payload

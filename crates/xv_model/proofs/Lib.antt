@@ -3,7 +3,10 @@ pub mod AcknowledgementLaws
 pub mod Beginnings
 pub mod Burdens
 pub mod Bytes
+pub mod EscalationLaws
 pub mod FabricHalves
+pub mod FewMessages
+pub mod FlightRanges
 pub mod FreshPages
 pub mod HalvesLemmas
 pub mod KeptOff
@@ -30,5 +33,4 @@ pub mod Sums
 pub mod Touches
 pub mod TriggerLaws
 pub mod Users
-pub mod WrittenCounts
 pub mod WellFormed

@@ -20,7 +20,7 @@ use Rattle.xv_model.specs.declared.messages.Message.TheVariants as message
 use Rattle.xv_model.specs.declared.outcomes.Presented.TheVariants.{Found, Backlogged, Lost, NoProcessor}
 use Rattle.xv_model.specs.end.Flags.{keeps_backlog}
 use Rattle.xv_model.specs.route.Flight.{flight}
-use Rattle.xv_model.specs.route.Taking.{presented_to, present_by, taken_by, take_outcome}
+use Rattle.xv_model.specs.route.Taking.{escalates_on, presented_to, present_by, taken_by, take_outcome}
 use Rattle.xv_model.specs.processor.Priorities.{has_priority}
 use Rattle.xv_model.specs.declared.tima.RingOp.{RingOp}
 use Rattle.xv_model.specs.declared.tima.RingOp.TheVariants.{Load, SetCppr, Accept, Inject, Push, Pull}
@@ -30,7 +30,7 @@ use Rattle.xv_model.specs.processor.Pending.{presentation_in, is_kept, is_late, 
 use Rattle.xv_model.specs.processor.Registers.{cppr_set, cppr_at, cppr, used_ring, ring_of, ring}
 use Rattle.xv_model.specs.processor.Moves.{is_restored, is_pulled, restore_outcome, save_outcome, push_outcome, on_by, on_of, pull_outcome}
 use Rattle.xv_model.specs.processor.Accesses.{acknowledged, load_value, if_on, ring_outcome, tima_outcome}
-use Rattle.xv_model.proofs.FabricHalves.{is_connected-half, flight-half}
+use Rattle.xv_model.proofs.FabricHalves.{is_connected-half, flight-half, ese-half, end_pass-half}
 use Rattle.xv_model.proofs.HalvesLemmas.{half}
 
 -- an operation that isn't the fabric's is no access to a ring
@@ -174,7 +174,7 @@ presented_to-half z b v h = λ i. if not (is_connected-half z v h i) then NoProc
 -- what taking a message answers
 taken_by-half : (z : Start) (h : List Entry) (m : Option Message) → option_map_or (taken_by z (fabric_of z.board h)) m out.NoMessage ≡ option_map_or (taken_by z h) m out.NoMessage
 taken_by-half z h (Some (message.Present e flags vp priority esc esc_eisn origin)) = ap (present_by flags vp priority) (presented_to-half z (keeps_backlog flags) vp h)
-taken_by-half z h (Some (message.Escalate e flags esc esc_eisn origin)) = refl
+taken_by-half z h (Some (message.Escalate e flags esc esc_eisn origin)) = λ i. out.Escalated e (if escalates_on flags (ese-half z e h i) then Some (end_pass-half z esc esc_eisn h i) else None)
 taken_by-half z h None = refl
 
 -- what taking message i answers after the fabric's entries is what it answers after the account

@@ -8,11 +8,11 @@ use Rattle.xv_model.specs.declared.operations.Op.{Op}
 use Rattle.xv_model.specs.declared.operations.Op.TheVariants as op
 use Rattle.xv_model.specs.declared.outcomes.Outcome.{Outcome}
 use Rattle.xv_model.specs.declared.outcomes.Outcome.TheVariants as out
+use Rattle.xv_model.specs.declared.board.Board.{Board}
 use Rattle.xv_model.specs.declared.entries.Entry.{Entry}
 use Rattle.xv_model.specs.account.Start.{Start, start}
 use Rattle.xv_model.specs.account.Kinds.{run_of}
 use Rattle.xv_model.specs.account.Legal.{IsLegal, IsNext, legal}
-use Rattle.xv_model.specs.source.Eas.{eas}
 use Rattle.xv_model.specs.end.Flags.{is_valid, enqueues}
 use Rattle.xv_model.specs.end.Descriptors.{config_by, end_config, until_config}
 use Rattle.xv_model.specs.end.Written.{wrote_in, payload_of, entered, written, written_count}
@@ -22,7 +22,9 @@ use Rattle.xv_model.specs.laws.Queues.{IsFresh, KeepsUp, LeavesQueue, IsOwnQueue
 use Rattle.xv_model.proofs.OneAccount.{legal_before}
 use Rattle.xv_model.proofs.QueueWords.{word_of, Sets, Holds, holds_kept, holds_more, reads_next}
 use Rattle.xv_model.proofs.QueuePasses.{pass_of, pass_sets, pass_enters, wrote_or_not, enters_none, word_kept}
-use Rattle.xv_model.proofs.SmallEisns.{small_eisn, small_start}
+use Rattle.xv_model.specs.account.Fit.{IsFitStart}
+use Rattle.xv_model.proofs.FlightRanges.{messages_fit, fit_start}
+use Rattle.xv_model.proofs.SmallEisns.{small_start}
 
 -- the queue of e after an account: it is configured so, what was taken is a beginning of what was written, and the page holds the rest
 pub record IsQueue (z : Start) (h : List Entry) (e : ℕ) (c : EndConfig) : Type 0 where
@@ -31,6 +33,14 @@ pub record IsQueue (z : Start) (h : List Entry) (e : ℕ) (c : EndConfig) : Type
   pub page : Holds c (word_at z h) (written z h e)
   pub unread : List ℕ
   pub whole : written z h e ≡ taken h e ++ unread
+
+-- the payloads that an account begins with are in range
+pub record IsSmallStart (z : Start) : Type 0 where
+  pub eisns : (s : ℕ) → (z.eas s).eisn < 2 ^ 31
+  pub fit : IsFitStart z
+
+pub small_start_of : (b : Board) → IsSmallStart (start b)
+small_start_of b = record { eisns = small_start b; fit = fit_start b }
 
 -- a configuration begins a queue
 begins : (z : Start) (before : List Entry) (x : Entry) (e : ℕ) (c : EndConfig) → config_by e x ≡ Some c → IsFresh z (x ∷ before) c → IsQueue z (x ∷ before) e c
@@ -62,17 +72,17 @@ abbrev SetsEntry : Start → List Entry → Entry → ℕ → ℕ → EndConfig 
 SetsEntry z h x j payload c = Sets (place c j) (word_of c j payload) (word_at z h) (word_at z (x ∷ h))
 
 -- one more entry that leaves e its queue: the page holds what was written then
-page_more : (z : Start) (h : List Entry) (x : Entry) (e : ℕ) (c : EndConfig) → IsNext z h x → LeavesQueue e c x → ((s : ℕ) → (z.eas s).eisn < 2 ^ 31) → IsQueue z h e c →
+page_more : (z : Start) (h : List Entry) (x : Entry) (e : ℕ) (c : EndConfig) → IsNext z h x → LeavesQueue e c x → IsSmallStart z → IsLegal z h → IsQueue z h e c →
     Holds c (word_at z (x ∷ h)) (written z h e ++ entered z h x e)
-page_more z h x e c n leaves small q =
+page_more z h x e c n leaves small l q =
     elim (wrote_or_not e (wrote_in (run_of x.op x.outcome))) [
       | inl is ↦
-          let p = pass_of z h x e n is in
+          let p = pass_of z h x e small.eisns (messages_fit z h l small.fit) n is in
           let count : written_count z h e ≡ length (written z h e) = omega (arith, q.fresh_count (z.written_count e)) in
           let number : (end_config z h e).start + written_count z h e ≡ c.start + length (written z h e) = ap (λ v. v.start + written_count z h e) q.config ∙ ap (λ v. c.start + v) count in
-          let sets = subst (SetsEntry z h x (c.start + length (written z h e)) (eas z h p.source).eisn) q.config (pass_sets z h x e (c.start + length (written z h e)) p number) in
+          let sets = subst (SetsEntry z h x (c.start + length (written z h e)) p.payload) q.config (pass_sets z h x e (c.start + length (written z h e)) p number) in
           subst (λ v. Holds c (word_at z (x ∷ h)) (written z h e ++ v)) (sym (pass_enters z h x e p is))
-          (holds_more c (word_at z h) (word_at z (x ∷ h)) (written z h e) (eas z h p.source).eisn (small_eisn z h p.source (small p.source)) sets q.page)
+          (holds_more c (word_at z h) (word_at z (x ∷ h)) (written z h e) p.payload p.small sets q.page)
       | inr differs ↦
           let nothing : written z h e ++ entered z h x e ≡ written z h e = ap (λ v. written z h e ++ v) (enters_none z h x e differs) ∙ append-nil (written z h e) in
           subst (Holds c (word_at z (x ∷ h))) (sym nothing)
@@ -135,15 +145,15 @@ read_answer : (z : Start) (h : List Entry) (x : Entry) (e : ℕ) → IsNext z h 
 read_answer z h x e n is = n.outcome ∙ ap (legal z h) is
 
 -- one more entry that leaves e its queue
-goes_on : (z : Start) (h : List Entry) (x : Entry) (e : ℕ) (c : EndConfig) → IsNext z h x → is_valid c ≡ true → enqueues c ≡ true → LeavesQueue e c x → ((s : ℕ) → (z.eas s).eisn < 2 ^ 31) →
+goes_on : (z : Start) (h : List Entry) (x : Entry) (e : ℕ) (c : EndConfig) → IsNext z h x → is_valid c ≡ true → enqueues c ≡ true → LeavesQueue e c x → IsSmallStart z → IsLegal z h →
     (x.op ≡ op.Read e → KeepsUp z h e) → IsQueue z h e c → IsQueue z (x ∷ h) e c
-goes_on z h x e c n v on leaves small keeps q =
+goes_on z h x e c n v on leaves small l keeps q =
     let more = written_more z h x e leaves.config in
     let rest = unread_more z h x e c (λ is. read_answer z h x e n is ∙ read_next z h e c v on q (keeps is)) q in
     record {
       config = ap (λ m. option_map_or (λ c. c) m (end_config z h e)) leaves.config ∙ q.config;
       fresh_count = λ k. ap (λ m. option_map_or (λ c. 0) m (until_config k h e)) leaves.config ∙ q.fresh_count k;
-      page = subst (Holds c (word_at z (x ∷ h))) (sym more) (page_more z h x e c n leaves small q);
+      page = subst (Holds c (word_at z (x ∷ h))) (sym more) (page_more z h x e c n leaves small l q);
       unread = rest.0;
       whole = more ∙ rest.1 ∙ ap (λ v. v ++ rest.0) (sym (taken_more h x e leaves.config));
     }
@@ -165,11 +175,11 @@ own_earlier z before earlier x e c [] w = w
 own_earlier z before earlier x e c (y ∷ later) w = own_earlier z before earlier x e c later (own_before z before (later ++ earlier) x y e c w)
 
 -- on a page of its own that was fresh, and whose reader keeps up, the queue of e is a queue
-pub is_queue : (z : Start) (before : List Entry) (x : Entry) (e : ℕ) (c : EndConfig) → ((s : ℕ) → (z.eas s).eisn < 2 ^ 31) → (since : List Entry) → IsLegal z (since ++ x ∷ before) →
+pub is_queue : (z : Start) (before : List Entry) (x : Entry) (e : ℕ) (c : EndConfig) → IsSmallStart z → (since : List Entry) → IsLegal z (since ++ x ∷ before) →
     IsOwnQueue z before x since e c → IsQueue z (since ++ x ∷ before) e c
 is_queue z before x e c small [] l w = begins z before x e c w.configured w.fresh
 is_queue z before x e c small (y ∷ since) l w =
-    goes_on z (since ++ x ∷ before) y e c l.1 w.is_on w.has_queue (All-head (LeavesQueue e c) y since w.own) small (w.keeps_up [] since y refl)
+    goes_on z (since ++ x ∷ before) y e c l.1 w.is_on w.has_queue (All-head (LeavesQueue e c) y since w.own) small l.0 (w.keeps_up [] since y refl)
     (is_queue z before x e c small since l.0 (own_before z before since x y e c w))
 
 -- each read of such a queue answers the next payload that was written
@@ -180,7 +190,7 @@ each_reads_next b h l before since x e c whole w later earlier y is read =
     subst (IsLegal z) (whole ∙ ap (λ v. v ++ x ∷ before) is ∙ append_assoc later (y ∷ earlier) (x ∷ before)) l in
     let at = legal_before z later (y ∷ (earlier ++ x ∷ before)) legal_at in
     let own = own_earlier z before (y ∷ earlier) x e c later (subst (λ v. IsOwnQueue z before x v e c) is w) in
-    let q = is_queue z before x e c (small_start b) earlier at.0 (own_before z before earlier x y e c own) in
+    let q = is_queue z before x e c (small_start_of b) earlier at.0 (own_before z before earlier x y e c own) in
     read_answer z (earlier ++ x ∷ before) y e at.1 read
     ∙ read_next z (earlier ++ x ∷ before) e c w.is_on w.has_queue q (w.keeps_up later earlier y is read)
 
@@ -188,5 +198,5 @@ each_reads_next b h l before since x e c whole w later earlier y is read =
 pub each_reads_as_written : EachReadsAsWritten
 each_reads_as_written b h l before since x e c whole w =
     let z = start b in
-    let q = is_queue z before x e c (small_start b) since (subst (IsLegal z) whole l) w in
+    let q = is_queue z before x e c (small_start_of b) since (subst (IsLegal z) whole l) w in
     (q.unread, subst (λ v. written z v e ≡ taken v e ++ q.unread) (sym whole) q.whole)

@@ -1,7 +1,8 @@
 -- The passes that write into a queue in a legal account, and what any entry leaves of it.
-use Rattle.std.proofs.Common.{ℕ, ◌≡◌, ◌==◌, ◌+◌, Bool, true, false, not, if◌then◌else◌, List, [], ◌∷◌, slice_get, Option, Some, None, refl, sym, ◌∙◌, ap, ◌⊎◌, inl, inr, eq-eqb, ne_eqb, length}
+use Rattle.std.proofs.Common.{ℕ, ◌≡◌, ◌==◌, ◌+◌, ◌<◌, ◌^◌, Bool, true, false, not, if◌then◌else◌, List, [], ◌∷◌, slice_get, Option, Some, None, refl, sym, ◌∙◌, ap, ◌⊎◌, inl, inr, eq-eqb, ne_eqb, length}
 use Rattle.std.proofs.lemmas.Bool.{cases_eq}
 use Rattle.std.specs.Option.{option_map_or, option_or}
+use Rattle.std.specs.Prelude.{All}
 use Rattle.xv_base.specs.Limits.{most_messages}
 use Rattle.xv_model.specs.declared.operations.Op.{Op}
 use Rattle.xv_model.specs.declared.operations.Op.TheVariants as op
@@ -21,13 +22,15 @@ use Rattle.xv_model.specs.source.Notices.{routes, outstanding}
 use Rattle.xv_model.specs.source.Eas.{eas}
 use Rattle.xv_model.specs.end.Flags.{is_valid, enqueues}
 use Rattle.xv_model.specs.end.Descriptors.{end_config}
-use Rattle.xv_model.specs.end.EventStates.{esn}
-use Rattle.xv_model.specs.end.Written.{wrote_in, payload_of, entered, written_count}
+use Rattle.xv_model.specs.end.EventStates.{esn, ese}
+use Rattle.xv_model.specs.end.Written.{wrote_in, payload_in, payload_of, entered, written_count}
 use Rattle.xv_model.specs.end.Memory.{place, wrote_at, write_of, word_in, zeroed_in, zero_in, word_by, word_at}
 use Rattle.xv_model.specs.route.Flight.{flight}
 use Rattle.xv_model.specs.route.Routing.{next_by, route_outcome}
-use Rattle.xv_model.specs.route.Taking.{taken_by}
-use Rattle.xv_model.proofs.RouteLaws.{route_answer}
+use Rattle.xv_model.specs.route.Taking.{escalates_on, taken_by}
+use Rattle.xv_model.specs.account.Fit.{IsFit}
+use Rattle.xv_model.proofs.FlightRanges.{fit_at}
+use Rattle.xv_model.proofs.SmallEisns.{small_eisn}
 use Rattle.xv_model.proofs.QueueWords.{word_of, Sets}
 
 -- the write of a pass that wrote for e is this one
@@ -45,47 +48,68 @@ writes_by s e k end false false true false false q w t is = cc
 writes_by s e k end false false true false true false w t is = cc
 writes_by s e k end false false true false true true w t is = (cc, refl)
 
--- the write of a route of s for an END
+-- the write of a pass with a payload for an END
 abbrev write_for : Start → List Entry → ℕ → ℕ → Wrote
-write_for z h s end = let c = end_config z h end in wrote_at c (c.start + written_count z h end) (eas z h s).eisn
+write_for z h payload end = let c = end_config z h end in wrote_at c (c.start + written_count z h end) payload
 
 -- where a route wrote for e, e is the END of the source's EAS
-route_writes : (z : Start) (h : List Entry) (s e : ℕ) → Writes e (eas z h s).end (write_for z h s (eas z h s).end) (op.Route s) (route_outcome z h s)
+route_writes : (z : Start) (h : List Entry) (s e : ℕ) → Writes e (eas z h s).end (write_for z h (eas z h s).eisn (eas z h s).end) (op.Route s) (route_outcome z h s)
 route_writes z h s e =
     let a = eas z h s in
     let c = end_config z h a.end in
-    writes_by s e (routes z h s + 1) a.end (outstanding z h s == 0) (length (flight z h) == most_messages) a.valid a.masked (is_valid c) (enqueues c) (write_for z h s a.end) (next_by c (esn z h a.end))
+    writes_by s e (routes z h s + 1) a.end (outstanding z h s == 0) (length (flight z h) == most_messages) a.valid a.masked (is_valid c) (enqueues c) (write_for z h a.eisn a.end) (next_by c (esn z h a.end))
 
--- what a take answers is no pass of an END
-take_writes_by : (z : Start) (h : List Entry) (m : Option Message) (e : ℕ) → wrote_in (run_of (op.Take 0) (option_map_or (taken_by z h) m out.NoMessage)) ≡ Some e → ⊥
-take_writes_by z h (Some (message.Present end flags vp priority esc esc_eisn origin)) e is = cc
-take_writes_by z h (Some (message.Escalate end flags esc esc_eisn origin)) e is = cc
-take_writes_by z h None e is = cc
+-- where an escalation wrote for e, e is its escalation END, by its three tests
+escalation_writes : (e esc : ℕ) (on v q : Bool) (w : Wrote) (t : Then) →
+    let r = if on then Some (if v then run.Ran esc (if q then Some w else None) t else run.NoEnd esc) else None in
+    wrote_in r ≡ Some e → (esc ≡ e) × (write_of r ≡ Some w)
+escalation_writes e esc false v q w t is = cc
+escalation_writes e esc true false q w t is = cc
+escalation_writes e esc true true false w t is = cc
+escalation_writes e esc true true true w t is = (cc, refl)
 
--- an operation that is legal, and that wrote into a queue, is a route
-wrote_op : (z : Start) (h : List Entry) (o : Op) (e : ℕ) → wrote_in (run_of o (legal z h o)) ≡ Some e → (s : ℕ) × (o ≡ op.Route s)
-wrote_op z h (op.Route s) e is = (s, refl)
-wrote_op z h (op.Take i) e is = absurd (take_writes_by z h (slice_get (flight z h) i) e is)
-wrote_op z h _ e is = absurd cc
-
--- an entry is the pass of a source that wrote into the queue of e: its number there is one more than those that were written
+-- an entry is a pass that wrote a payload into the queue of e: its number there is one more than those that were written
 pub record IsPass (z : Start) (h : List Entry) (x : Entry) (e : ℕ) : Type 0 where
-  pub source : ℕ
-  pub op_is : x.op ≡ op.Route source
-  pub write : write_of (run_of x.op x.outcome) ≡ Some (write_for z h source e)
+  pub payload : ℕ
+  pub small : payload < 2 ^ 31
+  pub enters : payload_of z h x.op ≡ payload ∷ []
+  pub write : write_of (run_of x.op x.outcome) ≡ Some (write_for z h payload e)
+  pub no_zero : zeroed_in x.op x.outcome ≡ None
+
+-- the same of an operation and what it answers
+abbrev PassBy : Start → List Entry → Op → Outcome → ℕ → Type 0
+PassBy z h o u e = (payload : ℕ) × (payload < 2 ^ 31) × (payload_of z h o ≡ payload ∷ []) × (write_of (run_of o u) ≡ Some (write_for z h payload e)) × (zeroed_in o u ≡ None)
+
+-- a take that wrote into the queue of e, by the message that it found
+take_pass : (z : Start) (h : List Entry) (i e : ℕ) (found : Option Message) → ((m : Message) → found ≡ Some m → IsFit m) →
+    let u = option_map_or (taken_by z h) found out.NoMessage in
+    wrote_in (run_of (op.Take i) u) ≡ Some e →
+    (payload : ℕ) × (payload < 2 ^ 31) × (option_map_or payload_in found [] ≡ payload ∷ []) × (write_of (run_of (op.Take i) u) ≡ Some (write_for z h payload e)) × (zeroed_in (op.Take i) u ≡ None)
+take_pass z h i e None fit is = cc
+take_pass z h i e (Some (message.Present end flags vp priority esc esc_eisn origin)) fit is = cc
+take_pass z h i e (Some (message.Escalate end flags esc esc_eisn origin)) fit is =
+    let c = end_config z h esc in
+    let w = escalation_writes e esc (escalates_on flags (ese z h end)) (is_valid c) (enqueues c) (write_for z h esc_eisn esc) (next_by c (esn z h esc)) is in
+    (esc_eisn, (fit (message.Escalate end flags esc esc_eisn origin) refl).payload, refl, w.1 ∙ ap (λ n. Some (write_for z h esc_eisn n)) w.0, refl)
+
+-- an operation that is legal, and that wrote into the queue of e, is such a pass
+pass_by : (z : Start) (h : List Entry) (o : Op) (e : ℕ) → ((s : ℕ) → (z.eas s).eisn < 2 ^ 31) → All IsFit (flight z h) → wrote_in (run_of o (legal z h o)) ≡ Some e → PassBy z h o (legal z h o) e
+pass_by z h (op.Route s) e small fit is =
+    let w = route_writes z h s e is in
+    ((eas z h s).eisn, small_eisn z h s (small s), refl, w.1 ∙ ap (λ n. Some (write_for z h (eas z h s).eisn n)) w.0, refl)
+pass_by z h (op.Take i) e small fit is = take_pass z h i e (slice_get (flight z h) i) (λ m at. fit_at (flight z h) i m fit at) is
+pass_by z h _ e small fit is = absurd cc
 
 -- an entry of a legal account that wrote into the queue of e is such a pass
-pub pass_of : (z : Start) (h : List Entry) (x : Entry) (e : ℕ) → IsNext z h x → wrote_in (run_of x.op x.outcome) ≡ Some e → IsPass z h x e
-pass_of z h x e n is =
-    let o = wrote_op z h x.op e (ap (λ u. wrote_in (run_of x.op u)) (sym n.outcome) ∙ is) in
-    let answer = route_answer z h x o.0 n o.1 in
-    let as_route : wrote_in (run_of (op.Route o.0) (route_outcome z h o.0)) ≡ Some e =
-    sym (ap (λ v. wrote_in (run_of v x.outcome)) o.1 ∙ ap (λ u. wrote_in (run_of (op.Route o.0) u)) answer) ∙ is in
-    let w = route_writes z h o.0 e as_route in
+pub pass_of : (z : Start) (h : List Entry) (x : Entry) (e : ℕ) → ((s : ℕ) → (z.eas s).eisn < 2 ^ 31) → All IsFit (flight z h) → IsNext z h x → wrote_in (run_of x.op x.outcome) ≡ Some e → IsPass z h x e
+pass_of z h x e small fit n is =
+    let p = pass_by z h x.op e small fit (ap (λ u. wrote_in (run_of x.op u)) (sym n.outcome) ∙ is) in
     record {
-      source = o.0;
-      op_is = o.1;
-      write = ap (λ v. write_of (run_of v x.outcome)) o.1 ∙ ap (λ u. write_of (run_of (op.Route o.0) u)) answer ∙ w.1 ∙ ap (λ end. Some (write_for z h o.0 end)) w.0;
+      payload = p.0;
+      small = p.1;
+      enters = p.2;
+      write = ap (λ u. write_of (run_of x.op u)) n.outcome ∙ p.3;
+      no_zero = ap (zeroed_in x.op) n.outcome ∙ p.4;
     }
 
 -- the word at an address after a write, by whether it is there
@@ -93,29 +117,27 @@ word_if : (b : Bool) (word before : ℕ) → option_map_or (λ w. w) (option_or 
 word_if true word before = refl
 word_if false word before = refl
 
--- the word that an operation and its outcome leave at an address
-abbrev word_after : Op → ℕ → Option Wrote → Outcome → ℕ → ℕ
-word_after o a w u before = option_map_or (λ word. word) (option_or (word_in a w) (zero_in a (zeroed_in o u))) before
-
 -- a pass that wrote into the queue of e sets the word of its number
 pub pass_sets : (z : Start) (h : List Entry) (x : Entry) (e j : ℕ) (p : IsPass z h x e) → (end_config z h e).start + written_count z h e ≡ j →
-    Sets (place (end_config z h e) j) (word_of (end_config z h e) j (eas z h p.source).eisn) (word_at z h) (word_at z (x ∷ h))
+    Sets (place (end_config z h e) j) (word_of (end_config z h e) j p.payload) (word_at z h) (word_at z (x ∷ h))
 pass_sets z h x e j p is a =
-    ap (λ w. word_after x.op a w x.outcome (word_at z h a)) p.write
-    ∙ ap (λ o. word_after o a (Some (write_for z h p.source e)) x.outcome (word_at z h a)) p.op_is
-    ∙ word_if (place (end_config z h e) ((end_config z h e).start + written_count z h e) == a) (word_of (end_config z h e) ((end_config z h e).start + written_count z h e) (eas z h p.source).eisn) (word_at z h a)
-    ∙ ap (λ n. if place (end_config z h e) n == a then word_of (end_config z h e) n (eas z h p.source).eisn else word_at z h a) is
+    let c = end_config z h e in
+    let n = c.start + written_count z h e in
+    ap (λ w. option_map_or (λ word. word) (option_or (word_in a w) (zero_in a (zeroed_in x.op x.outcome))) (word_at z h a)) p.write
+    ∙ ap (λ s. option_map_or (λ word. word) (option_or (word_in a (Some (write_for z h p.payload e))) (zero_in a s)) (word_at z h a)) p.no_zero
+    ∙ word_if (place c n == a) (word_of c n p.payload) (word_at z h a)
+    ∙ ap (λ k. if place c k == a then word_of c k p.payload else word_at z h a) is
 
 -- what was written for e, where it was
 payload_there : (e : ℕ) (ps : List ℕ) → (if e == e then ps else []) ≡ ps
 payload_there e ps = ap (λ b. if b then ps else []) (eq-eqb e e refl)
 
--- a pass that wrote into the queue of e writes the payload of its source
-pub pass_enters : (z : Start) (h : List Entry) (x : Entry) (e : ℕ) (p : IsPass z h x e) → wrote_in (run_of x.op x.outcome) ≡ Some e → entered z h x e ≡ (eas z h p.source).eisn ∷ []
+-- a pass that wrote into the queue of e writes its payload
+pub pass_enters : (z : Start) (h : List Entry) (x : Entry) (e : ℕ) (p : IsPass z h x e) → wrote_in (run_of x.op x.outcome) ≡ Some e → entered z h x e ≡ p.payload ∷ []
 pass_enters z h x e p is =
     ap (λ m. option_map_or (λ end. if end == e then payload_of z h x.op else []) m []) is
     ∙ payload_there e (payload_of z h x.op)
-    ∙ ap (payload_of z h) p.op_is
+    ∙ p.enters
 
 -- a pass wrote into the queue of e, or it didn't
 pub wrote_or_not : (e : ℕ) (m : Option ℕ) → (m ≡ Some e) ⊎ (m ≡ Some e → ⊥)

@@ -22,8 +22,7 @@ use Rattle.xv_model.specs.route.Flight.{flight}
 use Rattle.xv_model.specs.route.Routing.{route_outcome}
 use Rattle.xv_model.specs.laws.Queues.{KeepsUp, next_item}
 use Rattle.xv_model.specs.laws.QueueExample.{one_source, one_page}
-use Rattle.xv_model.proofs.QueueLaws.{IsQueue, is_queue, read_next}
-use Rattle.xv_model.proofs.SmallEisns.{small_start}
+use Rattle.xv_model.proofs.QueueLaws.{IsQueue, small_start_of, is_queue, read_next}
 use Rattle.xv_model.proofs.QueueAccount.{z, configuring, telling, triggering, routing, reading, ending, since, account, Own, up_to, up_to-more, length-up_to, get-next, AfterRounds, own_more, own_quiet, none_after}
 
 -- the entries since the configuration, as far as a round has come
@@ -73,7 +72,7 @@ routed_before n a = zero-add (0 + routes z (account (since n)) 0) ∙ zero-add (
 
 -- END 0 has a queue after entries that leave it that
 queue_after : (later : List Entry) → IsLegal z (account later) → Own later → IsQueue z (account later) 0 one_page
-queue_after later l own = is_queue z [] configuring 0 one_page (small_start one_source) later l own
+queue_after later l own = is_queue z [] configuring 0 one_page (small_start_of one_source) later l own
 
 -- the entries up to the trigger leave the END its queue
 own_triggered : (n : ℕ) → AfterRounds n (since n) → Own (triggered n)

@@ -116,26 +116,26 @@ one_message Coalesced e c s = omega arith
 one_message Silent e c s = omega arith
 
 -- a message that goes on is one message at most
-one_escalation : (escalates : Bool) (m : Message) (ms : List Message) → length ms ≤ 1 → length (if escalates then escalation_of m else ms) ≤ 1
+pub one_escalation : (escalates : Bool) (m : Message) (ms : List Message) → length ms ≤ 1 → length (if escalates then escalation_of m else ms) ≤ 1
 one_escalation true (message.Present e flags vp priority esc esc_eisn origin) ms l = omega arith
 one_escalation true (message.Escalate e flags esc esc_eisn origin) ms l = omega arith
 one_escalation false m ms l = l
 
 -- so is the pass of an END
-one_made : (z : Start) (h : List Entry) (s : ℕ) (r : Option EndRun) → length (made_by z h s r) ≤ 1
+pub one_made : (z : Start) (h : List Entry) (s : ℕ) (r : Option EndRun) → length (made_by z h s r) ≤ 1
 one_made z h s (Some (run.Ran e wrote next)) = one_message next e (end_config z h e) s
 one_made z h s (Some (run.NoEnd e)) = omega arith
 one_made z h s None = omega arith
 
 -- where a message is taken, and one is made of it at most, there are no more than before
-taken_room : (f : Message → List Message) (few : (m : Message) → length (f m) ≤ 1) (ms : List Message) (i : ℕ) → length (remove ms i ++ option_map_or f (slice_get ms i) []) ≤ length ms
+pub taken_room : (f : Message → List Message) (few : (m : Message) → length (f m) ≤ 1) (ms : List Message) (i : ℕ) → length (remove ms i ++ option_map_or f (slice_get ms i) []) ≤ length ms
 taken_room f few [] zero = omega arith
 taken_room f few [] (suc i) = omega arith
 taken_room f few (m ∷ ms) zero = omega (arith, length-append ms (f m), few m)
 taken_room f few (m ∷ ms) (suc i) = let rest = taken_room f few ms i in omega arith
 
 -- nothing is made of a message that isn't taken
-none_made : (ms : List Message) (m : Option Message) → ms ++ option_map_or (λ n. []) m [] ≡ ms
+pub none_made : (ms : List Message) (m : Option Message) → ms ++ option_map_or (λ n. []) m [] ≡ ms
 none_made ms (Some n) = append-nil ms
 none_made ms None = append-nil ms
 

@@ -16,7 +16,7 @@ use Rattle.xv_model.specs.source.PqTable.{trigger_row}
 use Rattle.xv_model.specs.source.Pages.{load_op}
 use Rattle.xv_model.specs.end.Flags.{is_valid}
 use Rattle.xv_model.specs.end.Descriptors.{config_by, end_config}
-use Rattle.xv_model.specs.end.EventStates.{Load, first_state, ran_at, asks_state, load_in, load_at, load_by, esn, ese}
+use Rattle.xv_model.specs.end.EventStates.{Load, first_state, ran_at, asks_state, load_in, load_at, load_by, esn, ese, escalated_at}
 use Rattle.xv_model.specs.end.Pages.{state_of, load_row, loaded}
 use Rattle.xv_model.proofs.SmallPairs.{sets_load, small_cell}
 
@@ -77,5 +77,5 @@ states-below z (x ∷ h) l w e =
     let small = λ (page n : ℕ) (is : load_by page e x ≡ Some n). let at = load_at-some page e n (load_in x.op x.outcome) is in
     subst (λ n. n < 4) at.2 (small_loaded z h x.op x.outcome at.0 before l.1.outcome at.1) in (
       small_after (config_by e x) (load_by 0 e x) _ (small 0) (small_trigger (ran_at e (run_of x.op x.outcome) && asks_state (end_config z h e)) (esn z h e) (before e).0),
-      small_after (config_by e x) (load_by 1 e x) _ (small 1) (before e).1,
+      small_after (config_by e x) (load_by 1 e x) _ (small 1) (small_trigger (escalated_at z h x.op x.outcome e) (ese z h e) (before e).1),
     )

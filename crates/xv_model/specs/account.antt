@@ -1,4 +1,5 @@
 pub mod Start
+pub mod Fit
 pub mod Kinds
 pub mod Halves
 pub mod Legal

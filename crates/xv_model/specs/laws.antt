@@ -4,3 +4,5 @@ pub mod Queues
 pub mod QueueExample
 pub mod Pending
 pub mod Acknowledgements
+pub mod Escalations
+pub mod Notices

@@ -3,6 +3,8 @@
 ghost use Rattle.xv_model.specs.account.Scripts.{EachHasAccount, OneAccount};
 ghost use Rattle.xv_model.specs.laws.Acknowledgements.{EachAcceptsMostFavoured, EachAnswersAccepted, EachLeavesAll, EachLeavesAlone};
 ghost use Rattle.xv_model.specs.laws.Entering.{EachEntersOnce, RoutedInOrder, RoutedOnceForwarded};
+ghost use Rattle.xv_model.specs.laws.Escalations.{EachEscalationRuns, EachSilentEscalates, EachUndeliveredEscalates};
+ghost use Rattle.xv_model.specs.laws.Notices.{EachHasFewMessages, EachQuietIsQuiet, EachTakesFew};
 ghost use Rattle.xv_model.specs.laws.Pending.{EachHasOneUser, EachIsInRing, EachIsKeptOff, EachIsShown, EachIsUser, EachStaysPending};
 ghost use Rattle.xv_model.specs.laws.QueueExample.{ReadsTwoQueues};
 ghost use Rattle.xv_model.specs.laws.Queues.{EachReadsAsWritten, EachReadsNext, StartIsFresh, ZeroedIsFresh, ZerosAreFresh};
@@ -21,10 +23,13 @@ pub fn triggers()
     ensures comes_again { CoalescedComesAgain }
 {}
 
-/// Of the notices of a source.
+/// Of the notices of a source, and of the messages that they make.
 pub fn notices()
     ensures routed_in_order { RoutedInOrder }
     ensures once_forwarded { RoutedOnceForwarded }
+    ensures quiet { EachQuietIsQuiet }
+    ensures few_takes { EachTakesFew }
+    ensures few_messages { EachHasFewMessages }
 {}
 
 /// Of what is routed to an END.
@@ -69,4 +74,11 @@ pub fn acknowledgements()
     ensures answers { EachAnswersAccepted }
     ensures leaves_alone { EachLeavesAlone }
     ensures leaves_all { EachLeavesAll }
+{}
+
+/// Of what isn't delivered.
+pub fn escalations()
+    ensures undelivered { EachUndeliveredEscalates }
+    ensures silent { EachSilentEscalates }
+    ensures runs { EachEscalationRuns }
 {}

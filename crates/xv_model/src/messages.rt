@@ -1,5 +1,8 @@
 //! The messages between an END and what it notifies.
 
+ghost use Rattle.std.specs.Prelude.{◌≡◌};
+ghost use Rattle.xv_model.specs.route.Flight.{source_of};
+
 use crate::operations::EndFlags;
 
 /// A message in flight. It keeps the fields of its END as they were when it was made, and the source
@@ -22,4 +25,16 @@ pub enum Message {
         esc_eisn: u32,
         origin: u32,
     },
+}
+
+impl Message {
+    /// The source that it comes from.
+    pub fn origin(&self) -> u32
+        ensures { result ≡ source_of self.now }
+    {
+        match *self {
+            Message::Present { origin, .. } => origin,
+            Message::Escalate { origin, .. } => origin,
+        }
+    }
 }

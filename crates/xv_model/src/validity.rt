@@ -1,7 +1,7 @@
 //! Which operations a board has.
 
 ghost use Rattle.std.specs.Prelude.{◌≡◌, nat_lt};
-ghost use Rattle.xv_model.specs.board.Validity.{valid as is_valid, has_op, end_count, is_queue_shift, is_queue as may_be_queue, has_queue as has_its_queue, never_escalates, has_nothing, notifies_one, valid_config as may_be_config, is_cam_word as may_be_cam_word, has_tima_load, has_tima_store, has_access as has_its_access};
+ghost use Rattle.xv_model.specs.board.Validity.{valid as is_valid, has_op, end_count, is_queue_shift, is_queue as may_be_queue, has_queue as has_its_queue, has_no_escalation as lacks_escalation, has_nothing, is_escalation_end as may_be_escalation_end, has_escalation, notifies_one, may_be_configured, valid_config as may_be_config, is_cam_word as may_be_cam_word, has_tima_load, has_tima_store, has_access as has_its_access};
 
 use crate::board::Board;
 use crate::hypercalls::H_INT_SET_SOURCE_CONFIG;
@@ -65,8 +65,8 @@ fn has_queue(board: &Board, config: &EndConfig) -> bool
 }
 
 /// Whether a configuration has no escalation END.
-fn escalates_nowhere(config: &EndConfig) -> bool
-    ensures { result ≡ never_escalates config.now }
+fn has_no_escalation(config: &EndConfig) -> bool
+    ensures { result ≡ lacks_escalation config.now }
 {
     config.esc == 0 && config.esc_eisn == 0
 }
@@ -75,17 +75,34 @@ fn escalates_nowhere(config: &EndConfig) -> bool
 fn is_empty(config: &EndConfig) -> bool
     ensures { result ≡ has_nothing config.now }
 {
-    config.flags.bits() == 0 && config.vp == 0 && config.priority == 0 && escalates_nowhere(config)
+    config.flags.bits() == 0 && config.vp == 0 && config.priority == 0 && has_no_escalation(config)
 }
 
-/// Whether the flags, the target and the priority are in range.
+/// Whether an END is one that others escalate to: the last one of a processor.
+fn is_escalation_end(e: u32) -> bool
+    ensures { result ≡ may_be_escalation_end e }
+{
+    e % ENDS_PER_PROCESSOR == ENDS_PER_PROCESSOR - 1
+}
+
+/// Whether a configuration with e has an escalation END of the board, and one without e has none.
+fn escalates_well(board: &Board, config: &EndConfig) -> bool
+    ensures { result ≡ has_escalation board.now config.now }
+{
+    if !config.flags.contains(EndFlags::ESCALATE) {
+        return has_no_escalation(config);
+    }
+    has_end(board, config.esc) && is_escalation_end(config.esc) && config.esc_eisn < 1 << 31
+}
+
+/// Whether the flags, the target, the priority and the escalation are in range.
 fn notifies(board: &Board, config: &EndConfig) -> bool
     ensures { result ≡ notifies_one board.now config.now }
 {
-    config.flags.bits() < 16
+    config.flags.bits() < 128
         && config.vp < board.limits.processors
         && (config.priority as u32) < ENDS_PER_PROCESSOR
-        && escalates_nowhere(config)
+        && escalates_well(board, config)
 }
 
 /// Whether an END of a board may be configured so.
@@ -100,6 +117,14 @@ pub fn valid_config(board: &Board, config: &EndConfig) -> bool
     } else {
         is_empty(config)
     }
+}
+
+/// Whether END `e` of a board may be configured so: an escalation END doesn't escalate.
+pub fn may_configure(board: &Board, e: u32, config: &EndConfig) -> bool
+    ensures { result ≡ may_be_configured board.now e config.now }
+{
+    valid_config(board, config)
+        && !(config.flags.contains(EndFlags::ESCALATE) && is_escalation_end(e))
 }
 
 /// Whether a value is the CAM word of a processor, with its valid bit.
@@ -149,8 +174,8 @@ pub fn valid(board: &Board, op: &Op) -> bool
         Op::Pq { s, op } => *s < board.limits.sources && has_operation(board.is_level(*s), *op),
         Op::Esb { s, page, .. } => { *s < board.limits.sources && *page < board.source_pages() }
         Op::EndEsb { e, page, .. } => has_end(board, *e) && *page < END_PAGES,
-        Op::Route { s } => *s < board.limits.sources,
-        Op::EndSet { e, config } => has_end(board, *e) && valid_config(board, config),
+        Op::Route { s } | Op::Quiet { s } => *s < board.limits.sources,
+        Op::EndSet { e, config } => has_end(board, *e) && may_configure(board, *e, config),
         Op::Hcall { number, args: _ } => *number == H_INT_SET_SOURCE_CONFIG,
         Op::Read { e } => has_end(board, *e),
         Op::Take { .. } | Op::Peek { .. } | Op::Zero { .. } => true,

@@ -1,5 +1,5 @@
 -- Which operations a board has.
-use Rattle.std.specs.Prelude.{ℕ, ◌==◌, ◌+◌, ◌*◌, ◌^◌, ◌%◌, nat_lt, nat_le, ◌&&◌, ◌||◌, not, Bool, true, false, if◌then◌else◌}
+use Rattle.std.specs.Prelude.{ℕ, ◌==◌, ◌+◌, ◌*◌, ◌^◌, ◌%◌, ◌-◌, nat_lt, nat_le, ◌&&◌, ◌||◌, not, Bool, true, false, if◌then◌else◌}
 use Rattle.xv_base.specs.Limits.{ends_per_processor}
 use Rattle.xv_model.specs.declared.hypercalls.TheConstants.{H_INT_SET_SOURCE_CONFIG}
 use Rattle.xv_model.specs.declared.pages.TheConstants.{END_PAGES}
@@ -13,7 +13,7 @@ use Rattle.xv_model.specs.declared.operations.EndConfig.{EndConfig}
 use Rattle.xv_model.specs.declared.operations.Op.{Op}
 use Rattle.xv_model.specs.declared.operations.Op.TheVariants as op
 use Rattle.xv_model.specs.board.Boards.{is_level, source_pages}
-use Rattle.xv_model.specs.end.Flags.{is_valid, enqueues}
+use Rattle.xv_model.specs.end.Flags.{is_valid, enqueues, escalates}
 
 -- whether a source has an operation, a level source or not: a pair that is set is one, and only a level source has a line
 abbrev pub has_op : Bool → PqOp → Bool
@@ -50,20 +50,32 @@ abbrev pub has_queue : Board → EndConfig → Bool
 has_queue b c = if enqueues c then is_queue b c.qaddr c.qshift else (c.qaddr == 0) && (c.qshift == 0)
 
 -- whether a configuration without e has no escalation END
-abbrev pub never_escalates : EndConfig → Bool
-never_escalates c = (c.esc == 0) && (c.esc_eisn == 0)
+abbrev pub has_no_escalation : EndConfig → Bool
+has_no_escalation c = (c.esc == 0) && (c.esc_eisn == 0)
 
 -- whether all fields but those of the queue and its start are 0
 abbrev pub has_nothing : EndConfig → Bool
-has_nothing c = (c.flags.0 == 0) && ((c.vp == 0) && ((c.priority == 0) && never_escalates c))
+has_nothing c = (c.flags.0 == 0) && ((c.vp == 0) && ((c.priority == 0) && has_no_escalation c))
 
--- whether the flags, the target and the priority are in range: the flags that are built are v, q, n and b
+-- whether an END is one that others escalate to: the last one of a processor
+abbrev pub is_escalation_end : ℕ → Bool
+is_escalation_end e = e % ends_per_processor == ends_per_processor - 1
+
+-- whether a configuration with e has an escalation END of the board, and one without e has none
+abbrev pub has_escalation : Board → EndConfig → Bool
+has_escalation b c = if escalates c then nat_lt c.esc (end_count b) && (is_escalation_end c.esc && nat_lt c.esc_eisn (2 ^ 31)) else has_no_escalation c
+
+-- whether the flags, the target, the priority and the escalation are in range
 abbrev pub notifies_one : Board → EndConfig → Bool
-notifies_one b c = nat_lt c.flags.0 16 && (nat_lt c.vp b.limits.processors && (nat_lt c.priority ends_per_processor && never_escalates c))
+notifies_one b c = nat_lt c.flags.0 128 && (nat_lt c.vp b.limits.processors && (nat_lt c.priority ends_per_processor && has_escalation b c))
 
 -- whether an END may be configured so: without v there is nothing else
 abbrev pub valid_config : Board → EndConfig → Bool
 valid_config b c = (c.start == 0) && (has_queue b c && (if is_valid c then notifies_one b c else has_nothing c))
+
+-- whether END e may be configured so: an escalation END doesn't escalate
+abbrev pub may_be_configured : Board → ℕ → EndConfig → Bool
+may_be_configured b e c = valid_config b c && not (escalates c && is_escalation_end e)
 
 -- whether a number is that of a processor, and whether it is that of a thread
 abbrev pub has_processor : Board → ℕ → Bool
@@ -100,9 +112,10 @@ valid b (op.Pq s o) = nat_lt s b.limits.sources && has_op (is_level b s) o
 valid b (op.Esb s page offset store) = nat_lt s b.limits.sources && nat_lt page (source_pages b)
 valid b (op.EndEsb e page offset store) = nat_lt e (end_count b) && nat_lt page END_PAGES
 valid b (op.Route s) = nat_lt s b.limits.sources
-valid b (op.EndSet e c) = nat_lt e (end_count b) && valid_config b c
+valid b (op.EndSet e c) = nat_lt e (end_count b) && may_be_configured b e c
 valid b (op.Hcall number args) = number == H_INT_SET_SOURCE_CONFIG
 valid b (op.Take i) = true
+valid b (op.Quiet s) = nat_lt s b.limits.sources
 valid b (op.Connect v) = has_processor b v
 valid b (op.Restore v t) = has_processor b v && has_thread b t
 valid b (op.Save v) = has_processor b v

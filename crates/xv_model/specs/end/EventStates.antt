@@ -8,12 +8,15 @@ use Rattle.xv_model.specs.declared.outcomes.EndRun.{EndRun}
 use Rattle.xv_model.specs.declared.outcomes.EndRun.TheVariants as run
 use Rattle.xv_model.specs.declared.outcomes.Outcome.{Outcome}
 use Rattle.xv_model.specs.declared.outcomes.Outcome.TheVariants as out
+use Rattle.xv_model.specs.declared.messages.Message.{Message}
+use Rattle.xv_model.specs.declared.messages.Message.TheVariants as message
 use Rattle.xv_model.specs.declared.entries.Entry.{Entry}
 use Rattle.xv_model.specs.account.Start.{Start}
 use Rattle.xv_model.specs.account.Kinds.{run_of}
 use Rattle.xv_model.specs.source.PqTable.{trigger_row}
-use Rattle.xv_model.specs.end.Flags.{is_valid, always_notifies, is_silent}
+use Rattle.xv_model.specs.end.Flags.{always_escalates, is_valid, always_notifies, is_silent}
 use Rattle.xv_model.specs.end.Descriptors.{config_by, end_config}
+use Rattle.xv_model.specs.route.Flight.{message_in, flight}
 
 -- the state that a configuration gives: 00, or 01 where it makes the END not valid
 abbrev pub first_state : EndConfig → ℕ
@@ -56,7 +59,19 @@ esn z (x ∷ h) e =
     let triggered = if ran_at e (run_of x.op x.outcome) && asks_state (end_config z h e) then (trigger_row before).pair else before in
     option_map_or first_state (config_by e x) (option_map_or (λ new. new) (load_by 0 e x) triggered)
 
--- the state of escalations (ESe): each load of page 1 changes it, and no operation that is built triggers it
+-- the END whose state an escalation asks: that of its message, unless this has u
+abbrev pub asked_end : Option Message → Option ℕ
+asked_end (Some (message.Escalate e flags esc esc_eisn origin)) = if always_escalates flags then None else Some e
+asked_end _ = None
+
+-- whether an operation after an account, with this outcome, took an escalation that asked the state of e
+abbrev pub escalated_at : Start → List Entry → Op → Outcome → ℕ → Bool
+escalated_at z h o u e = option_map_or (λ end. end == e) (asked_end (message_in (flight z h) o u)) false
+
+-- the state of escalations (ESe): each escalation that asks it triggers it, and each load of page 1 changes it
 abbrev pub ese : Start → List Entry → ℕ → ℕ
 ese z [] e = z.ese e
-ese z (x ∷ h) e = option_map_or first_state (config_by e x) (option_map_or (λ new. new) (load_by 1 e x) (ese z h e))
+ese z (x ∷ h) e =
+    let before = ese z h e in
+    let triggered = if escalated_at z h x.op x.outcome e then (trigger_row before).pair else before in
+    option_map_or first_state (config_by e x) (option_map_or (λ new. new) (load_by 1 e x) triggered)

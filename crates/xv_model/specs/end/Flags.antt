@@ -16,6 +16,10 @@ keeps_backlog flags = has_bit flags.0 8
 abbrev pub may_escalate : EndFlags → Bool
 may_escalate flags = has_bit flags.0 16
 
+-- u: an escalation asks no state
+abbrev pub always_escalates : EndFlags → Bool
+always_escalates flags = has_bit flags.0 32
+
 -- v: the END is valid
 abbrev pub is_valid : EndConfig → Bool
 is_valid c = has_bit c.flags.0 1

@@ -1,5 +1,5 @@
 -- The messages in flight, in the order in which they were made.
-use Rattle.std.specs.Prelude.{ℕ, Bool, false, if◌then◌else◌, List, [], ◌∷◌, ◌++◌, slice_get, Option, Some, None}
+use Rattle.std.specs.Prelude.{ℕ, Bool, false, if◌then◌else◌, List, [], ◌∷◌, ◌++◌, slice_get, Option, Some, None, option_and_then}
 use Rattle.std.specs.Option.{option_map_or}
 use Rattle.std.specs.List.{remove}
 use Rattle.xv_model.specs.declared.operations.EndConfig.{EndConfig}
@@ -39,6 +39,10 @@ abbrev pub taken_in : Op → Outcome → Option ℕ
 taken_in (op.Take i) (out.Present v p presented escalates) = Some i
 taken_in (op.Take i) (out.Escalated e run) = Some i
 taken_in _ _ = None
+
+-- the message that was taken, of those in flight
+abbrev pub message_in : List Message → Op → Outcome → Option Message
+message_in ms o u = option_and_then (λ i. slice_get ms i) (taken_in o u)
 
 -- whether a presentation goes on as an escalation
 abbrev pub is_escalating : Outcome → Bool

@@ -3,7 +3,7 @@
 use crate::board::Board;
 use crate::operations::{EndConfig, EndFlags, Op};
 use crate::tests::small_board;
-use crate::validity::{valid, valid_config};
+use crate::validity::{may_configure, valid, valid_config};
 use bitflags::Flags;
 
 /// An END with a queue of 64 KiB, the last one that lies in the memory of the small board.
@@ -61,11 +61,16 @@ fn valid_flags(rt: HostRuntime) {
         ..with_queue()
     };
     assert!(rt; valid_config(&board, &fifteen));
-    let escalates = EndConfig {
-        flags: EndFlags::from_bits_retain(19),
+    let silent = EndConfig {
+        flags: EndFlags::from_bits_retain(0x6f),
         ..with_queue()
     };
-    assert!(rt; !valid_config(&board, &escalates));
+    assert!(rt; valid_config(&board, &silent));
+    let eighth = EndConfig {
+        flags: EndFlags::from_bits_retain(0x83),
+        ..with_queue()
+    };
+    assert!(rt; !valid_config(&board, &eighth));
     let alone = EndConfig {
         flags: EndFlags::from_bits_retain(16),
         ..EndConfig::OFF
@@ -150,6 +155,35 @@ fn valid_without_queue(rt: HostRuntime) {
         ..no_queue
     };
     assert!(rt; !valid_config(&board, &has_size));
+}
+
+/// An END that escalates to another one.
+fn escalating(esc: u32) -> EndConfig {
+    EndConfig {
+        flags: EndFlags::VALID | EndFlags::ENQUEUE | EndFlags::ESCALATE,
+        esc,
+        esc_eisn: 0x7fff_ffff,
+        ..with_queue()
+    }
+}
+
+#[test]
+fn valid_escalations(rt: HostRuntime) {
+    let board = small_board();
+    assert!(rt; may_configure(&board, 0, &escalating(7)));
+    assert!(rt; may_configure(&board, 14, &escalating(15)));
+    assert!(rt; !may_configure(&board, 0, &escalating(6)));
+    assert!(rt; !may_configure(&board, 0, &escalating(23)));
+    assert!(rt; !may_configure(&board, 7, &escalating(15)));
+    assert!(rt; may_configure(&board, 7, &with_queue()));
+    let long = EndConfig {
+        esc_eisn: 0x8000_0000,
+        ..escalating(7)
+    };
+    assert!(rt; !may_configure(&board, 0, &long));
+    let config = escalating(15);
+    assert!(rt; valid(&board, &Op::EndSet { e: 3, config }));
+    assert!(rt; !valid(&board, &Op::EndSet { e: 7, config }));
 }
 
 #[test]

@@ -76,6 +76,8 @@ fn valid_routes(rt: HostRuntime) {
     let board = small_board();
     assert!(rt; valid(&board, &Op::Route { s: 1 }));
     assert!(rt; !valid(&board, &Op::Route { s: 2 }));
+    assert!(rt; valid(&board, &Op::Quiet { s: 1 }));
+    assert!(rt; !valid(&board, &Op::Quiet { s: 2 }));
 }
 
 #[test]

@@ -73,7 +73,6 @@ fn operations_that_are_not_built(rt: HostRuntime) {
         attr: 1,
         value,
     };
-    assert!(rt; !valid(&board, &Op::Quiet { s: 0 }));
     assert!(rt; !valid(&board, &set));
     assert!(rt; !valid(&board, &Op::AttrGet { group: 1, attr: 1 }));
     assert!(rt; !valid(&board, &Op::VpGet { v: 0 }));
