@@ -1,1 +1,2 @@
--- No definitions: the rows are those of xv_model.
+-- What decides for a pass, beside the rows of xv_model.
+pub mod Decisions
