@@ -12,7 +12,7 @@ use Rattle.xv_model.specs.source.PqTable.{trigger_row}
 use Rattle.xv_model.specs.end.EventStates.{asks_state}
 use Rattle.xv_model.specs.board.Validity.{valid_config}
 use Rattle.end_queue.specs.declared.ends.EndRecord.{EndRecord}
-use Rattle.end_queue.specs.Ends.{first_end, end_in, configured, HasCountsAtMost, HasRoom}
+use Rattle.end_queue.specs.Ends.{first_end, end_in, configured, with_ese, HasCountsAtMost, HasRoom}
 use Rattle.end_queue.specs.Queues.{one_taken, is_item, after_read}
 use Rattle.router.specs.Ends.{IsEnd}
 use Rattle.router.specs.Passes.{enqueued, notified, after_pass}
@@ -51,23 +51,49 @@ counted n r l = by (is_valid r.config)
     by true = record { written = one_more (enqueues r.config) r.written n l.written; taken = omega arith }
     by false = record { written = omega arith; taken = omega arith }
 
+-- the ENDs after a pass
+pub passed_in_range : (b : Board) (ends : List EndRecord) (e : ℕ) → e < length ends → All (IsEnd b) ends → All (IsEnd b) (slice_set ends e (after_pass (end_in ends e)))
+passed_in_range b ends e l all = All-set (IsEnd b) ends e (after_pass (end_in ends e)) (after_pass_in_range b (end_in ends e) (All-get_or (IsEnd b) ends e first_end l all)) all
+
 -- the ENDs after a notice
 pub ends_in_range : (b : Board) (ends : List EndRecord) (a : Eas) → a.end < length ends → All (IsEnd b) ends → All (IsEnd b) (ends_after ends a)
 ends_in_range b ends a l all = by (reaches_end a)
   where
     by : (going : Bool) → All (IsEnd b) (if going then slice_set ends a.end (after_pass (end_in ends a.end)) else ends)
-    by true = All-set (IsEnd b) ends a.end (after_pass (end_in ends a.end)) (after_pass_in_range b (end_in ends a.end) (All-get_or (IsEnd b) ends a.end first_end l all)) all
+    by true = passed_in_range b ends a.end l all
     by false = all
+
+-- the ENDs after the state of escalations of one was set
+pub asked_in_range : (b : Board) (ends : List EndRecord) (e state : ℕ) → state < 4 → e < length ends → All (IsEnd b) ends → All (IsEnd b) (slice_set ends e (with_ese state (end_in ends e)))
+asked_in_range b ends e state small l all =
+    let old = All-get_or (IsEnd b) ends e first_end l all in All-set (IsEnd b) ends e (with_ese state (end_in ends e)) (record { config = old.config; esn = old.esn; ese = small }) all
+
+pub asked_counted : (n : ℕ) (ends : List EndRecord) (e state : ℕ) → e < length ends → All (HasCountsAtMost n) ends → All (HasCountsAtMost n) (slice_set ends e (with_ese state (end_in ends e)))
+asked_counted n ends e state l all =
+    let old = All-get_or (HasCountsAtMost n) ends e first_end l all in All-set (HasCountsAtMost n) ends e (with_ese state (end_in ends e)) (record { written = old.written; taken = old.taken }) all
+
+pub asked_roomy : (ends : List EndRecord) (e state : ℕ) → e < length ends → All HasRoom ends → All HasRoom (slice_set ends e (with_ese state (end_in ends e)))
+asked_roomy ends e state l all =
+    let old = All-get_or HasRoom ends e first_end l all in All-set HasRoom ends e (with_ese state (end_in ends e)) (record { written = old.written; taken = old.taken }) all
+
+pub one_roomy : (ends : List EndRecord) (e : ℕ) → e < length ends → All HasRoom ends → HasRoom (end_in ends e)
+one_roomy ends e l all = All-get_or HasRoom ends e first_end l all
+
+pub one_in_range : (b : Board) (ends : List EndRecord) (e : ℕ) → e < length ends → All (IsEnd b) ends → IsEnd b (end_in ends e)
+one_in_range b ends e l all = All-get_or (IsEnd b) ends e first_end l all
 
 -- counts that are at most n are at most one more
 pub one_more_in_all : (n : ℕ) (ends : List EndRecord) → All (HasCountsAtMost n) ends → All (HasCountsAtMost (n + 1)) ends
 one_more_in_all n ends all k d inside = let before = all k d inside in record { written = omega arith; taken = omega arith }
 
+pub passed_counted : (n : ℕ) (ends : List EndRecord) (e : ℕ) → e < length ends → All (HasCountsAtMost n) ends → All (HasCountsAtMost (n + 1)) (slice_set ends e (after_pass (end_in ends e)))
+passed_counted n ends e l all = All-set (HasCountsAtMost (n + 1)) ends e (after_pass (end_in ends e)) (counted n (end_in ends e) (All-get_or (HasCountsAtMost n) ends e first_end l all)) (one_more_in_all n ends all)
+
 pub ends_counted : (n : ℕ) (ends : List EndRecord) (a : Eas) → a.end < length ends → All (HasCountsAtMost n) ends → All (HasCountsAtMost (n + 1)) (ends_after ends a)
 ends_counted n ends a l all = by (reaches_end a)
   where
     by : (going : Bool) → All (HasCountsAtMost (n + 1)) (if going then slice_set ends a.end (after_pass (end_in ends a.end)) else ends)
-    by true = All-set (HasCountsAtMost (n + 1)) ends a.end (after_pass (end_in ends a.end)) (counted n (end_in ends a.end) (All-get_or (HasCountsAtMost n) ends a.end first_end l all)) (one_more_in_all n ends all)
+    by true = passed_counted n ends a.end l all
     by false = one_more_in_all n ends all
 
 -- ENDs whose counts are at most n, below 2^63, have room

@@ -1,9 +1,8 @@
 -- Entries that route a notice: what the tables represent then, and what is answered.
-use Rattle.std.proofs.Common.{ℕ, ◌≡◌, ◌≢◌, ◌<◌, ◌+◌, ◌*◌, ◌-◌, ◌==◌, Bool, true, false, if◌then◌else◌, List, [], ◌∷◌, ◌++◌, length, Some, None, refl, sym, ◌∙◌, ap, subst, arith, slice_set, slice_get, slice_index_or, length-append}
+use Rattle.std.proofs.Common.{ℕ, ◌≡◌, ◌≢◌, ◌<◌, ◌+◌, ◌*◌, ◌-◌, ◌==◌, Bool, true, false, if◌then◌else◌, List, [], ◌∷◌, ◌++◌, length, Some, None, refl, sym, ◌∙◌, ap, subst, arith, slice_set, slice_get, slice_index_or}
 use Rattle.std.proofs.lemmas.Bool.{eq-eqb, ne_eqb}
 use Rattle.std.proofs.lemmas.List.{append-nil}
 use Rattle.std.specs.Prelude.{◌&&◌, not}
-use Rattle.std.specs.Option.{option_map_or}
 use Rattle.xv_base.specs.Limits.{ends_per_processor, most_messages}
 use Rattle.xv_model.specs.declared.eas.Eas.{Eas}
 use Rattle.xv_model.specs.declared.messages.Message.{Message}
@@ -16,25 +15,25 @@ use Rattle.xv_model.specs.declared.outcomes.Routed.TheVariants as routed
 use Rattle.xv_model.specs.declared.outcomes.Outcome.TheVariants as out
 use Rattle.xv_model.specs.declared.entries.Entry.{Entry}
 use Rattle.xv_model.specs.account.Start.{Start}
-use Rattle.xv_model.specs.source.PqTable.{trigger_row}
 use Rattle.xv_model.specs.source.Notices.{routes, forwards}
 use Rattle.xv_model.specs.source.Eas.{eas}
 use Rattle.xv_model.specs.end.Flags.{is_valid, enqueues}
-use Rattle.xv_model.specs.end.Descriptors.{end_config, until_config}
-use Rattle.xv_model.specs.end.EventStates.{esn, ese, asks_state}
+use Rattle.xv_model.specs.end.Descriptors.{end_config}
+use Rattle.xv_model.specs.end.EventStates.{esn, ese}
 use Rattle.xv_model.specs.end.Memory.{wrote_at}
-use Rattle.xv_model.specs.end.Written.{written, written_count, wrote_in}
+use Rattle.xv_model.specs.end.Written.{written_count}
 use Rattle.xv_model.specs.end.Reading.{taken}
 use Rattle.xv_model.specs.route.Flight.{flight, messages_by}
 use Rattle.xv_model.specs.route.Routing.{next_by, route_outcome, routed_by}
 use Rattle.end_queue.specs.declared.ends.EndRecord.{EndRecord}
-use Rattle.end_queue.specs.Ends.{first_end, end_in}
+use Rattle.end_queue.specs.Ends.{first_end, end_in, with_ese}
 use Rattle.router.specs.Passes.{after_pass, pass_by, made_for}
 use Rattle.router.specs.Routing.{routed_in, ends_after, messages_after}
 use Rattle.router.specs.Tables.{Kept, StandsFor, end_of}
 use Rattle.router.proofs.Configured.{at_same, at_other}
 use Rattle.router.proofs.Elements.{set_gives, read}
 use Rattle.router.proofs.Keeping.{nothing_entered}
+use Rattle.router.proofs.Ran.{counted_in, count_by, ran}
 
 -- the entry of a notice of s that is routed as number k
 abbrev pub route_of : ℕ → ℕ → ℕ → Routed → Entry
@@ -56,57 +55,14 @@ after_route t s k ends messages = record {
 abbrev ran_by : ℕ → Bool → Wrote → Then → Routed
 ran_by e q w next = routed.Run (Ran e (if q then Some w else None) next)
 
--- how many entries a pass of e writes for j
-entered_by : (e j payload : ℕ) (w : Wrote) (next : Then) (q : Bool) →
-    length (option_map_or (λ end. if end == j then payload ∷ [] else [])
-    (wrote_in (Some (Ran e (if q then Some w else None) next))) [])
-    ≡ (if e == j then (if q then 1 else 0) else 0)
-entered_by e j payload w next true = by (e == j)
-  where
-    by : (same : Bool) → length (if same then payload ∷ [] else []) ≡ (if same then 1 else 0)
-    by true = refl
-    by false = refl
-entered_by e j payload w next false = by (e == j)
-  where
-    by : (same : Bool) → ◌≡◌ {A = ℕ} 0 (if same then 0 else 0)
-    by true = refl
-    by false = refl
-
-count_after : (before more : List ℕ) (n : ℕ) (same q : Bool) →
-    length more ≡ (if same then (if q then 1 else 0) else 0) →
-    length (before ++ more) + n
-    ≡ (if same then (if q then (length before + n) + 1 else length before + n) else length before + n)
-count_after before more n true true l = omega (arith, length-append {A = ℕ})
-count_after before more n true false l = omega (arith, length-append {A = ℕ})
-count_after before more n false q l = omega (arith, length-append {A = ℕ})
-
--- an END that has so many entries after a pass, of it or another one
-abbrev counted_in : Start → List Entry → ℕ → Bool → ℕ → List ℕ → EndRecord
-counted_in z h j same n ts = record {
-  config = end_config z h j;
-  written = n;
-  taken = length ts + until_config (z.taken_count j) h j;
-  esn = if same && asks_state (end_config z h j) then (trigger_row (esn z h j)).pair else esn z h j;
-  ese = ese z h j;
-}
-
--- how many entries it has, where the pass writes or not
-abbrev count_by : Start → List Entry → ℕ → Bool → ℕ
-count_by z h j q = if q then written_count z h j + 1 else written_count z h j
-
 -- an END after a pass of e
-ran : (z : Start) (h : List Entry) (s actor k e j : ℕ) (w : Wrote) (next : Then) (q : Bool) →
+ran_routed : (z : Start) (h : List Entry) (s actor k e j : ℕ) (w : Wrote) (next : Then) (q : Bool) →
     end_of z (route_of actor s k (ran_by e q w next) ∷ h) j
     ≡ (if e == j then counted_in z h j true (count_by z h j q) (taken h j) else end_of z h j)
-ran z h s actor k e j w next q =
-    ap (λ n. counted_in z h j (e == j) n (taken h j ++ []))
-    (count_after (written z h j) _ (until_config (z.written_count j) h j) (e == j) q
-    (entered_by e j (eas z h s).eisn w next q))
-    ∙ ap (counted_in z h j (e == j) (if e == j then count_by z h j q else written_count z h j)) (append-nil (taken h j))
-    ∙ by (e == j)
+ran_routed z h s actor k e j w next q = ran z h e j (eas z h s).eisn (ese z h j) w next q ∙ by (e == j)
   where
     by : (same : Bool) →
-        counted_in z h j same (if same then count_by z h j q else written_count z h j) (taken h j)
+        with_ese (ese z h j) (if same then counted_in z h j true (count_by z h j q) (taken h j) else end_of z h j)
         ≡ (if same then counted_in z h j true (count_by z h j q) (taken h j) else end_of z h j)
     by true = refl
     by false = refl
@@ -163,8 +119,8 @@ passed_by t z h s actor k e w next writes true st l is le =
     routed_stands t z h s actor k r _ _ st l is
     (set_gives t.ends e (ends_per_processor * z.board.limits.processors) _
     (end_of z h) (end_of z (route_of actor s (k + 1) r ∷ h)) st.ends le
-    (sym (ran z h s actor (k + 1) e e w next writes ∙ at_same e _ (end_of z h e)))
-    (λ j other. ran z h s actor (k + 1) e j w next writes ∙ at_other e j _ (end_of z h j) other))
+    (sym (ran_routed z h s actor (k + 1) e e w next writes ∙ at_same e _ (end_of z h e)))
+    (λ j other. ran_routed z h s actor (k + 1) e j w next writes ∙ at_other e j _ (end_of z h j) other))
     (ap (λ ms. ms ++ messages_by next e (end_config z h e) s) st.messages)
 passed_by t z h s actor k e w next writes false st l is le =
     let r = routed.Run (NoEnd e) in
@@ -206,7 +162,7 @@ routed_by_parts t z h s actor k true false e p r st l is le same =
     passed t z h s actor k e p r st l is le same
 
 -- what is kept of the END of an EAS
-end_found : (t : Kept) (z : Start) (h : List Entry) (e : ℕ) →
+pub end_found : (t : Kept) (z : Start) (h : List Entry) (e : ℕ) →
     StandsFor t z h → e < ends_per_processor * t.board.limits.processors → end_in t.ends e ≡ end_of z h e
 end_found t z h e st l =
     read t.ends e (ends_per_processor * z.board.limits.processors) (end_in t.ends e) first_end (end_of z h) st.ends

@@ -4,6 +4,5 @@ pub mod Ends
 pub mod Messages
 pub mod Pages
 pub mod Passes
-pub mod Presenting
 pub mod Routing
 pub mod Tables

@@ -10,7 +10,10 @@ use Rattle.xv_model.specs.end.EventStates.{asks_state}
 use Rattle.xv_model.specs.end.Flags.{is_valid, enqueues}
 use Rattle.xv_model.specs.route.Routing.{next_by, write_by}
 use Rattle.xv_model.specs.route.Flight.{messages_by}
+use Rattle.end_escalate.specs.declared.decisions.EndStep.{EndStep}
+use Rattle.end_escalate.specs.Decisions.{state_after}
 use Rattle.end_queue.specs.declared.ends.EndRecord.{EndRecord}
+use Rattle.end_queue.specs.Ends.{with_esn}
 
 -- an END after a pass wrote into its queue, where it has one
 abbrev pub enqueued : EndRecord → EndRecord
@@ -21,6 +24,10 @@ enqueued r = record {
   esn = r.esn;
   ese = r.ese;
 }
+
+-- an END after a step made its state of notifications what it says
+abbrev pub with_step : EndStep → EndRecord → EndRecord
+with_step step r = with_esn (state_after step r.esn) r
 
 -- an END after a pass went on: where that asks its state, it is triggered
 abbrev pub notified : EndRecord → EndRecord

@@ -3,9 +3,11 @@
 #![tactic(auto)]
 
 mod configuring;
+mod escalating;
 mod pages;
 mod passes;
-pub mod presenting;
+mod presenting;
+mod quiet;
 mod reading;
 mod routing;
 pub mod tables;

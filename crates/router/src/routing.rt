@@ -1,7 +1,8 @@
 //! Routes of notices.
 
 ghost use Rattle.std.specs.Prelude.{◌≡◌, ◌<◌, ◌≤◌, ◌+◌, ◌*◌, ◌^◌, ◌↔◌, ◌⊎◌, ◌∷◌, ℕ, List, length, All};
-ghost use Rattle.std.specs.Prelude.{IfSome, IsTrue, slice_index_or, vec_len, vec_capacity};
+ghost use Rattle.std.specs.Prelude.{IfSome, IsTrue, slice_index_or};
+ghost use Rattle.std.specs.VecDeque.{deque_len, deque_capacity};
 ghost use Rattle.xv_base.specs.Limits.{most_messages};
 ghost use Rattle.xv_model.specs.declared.entries.Entry.{Entry};
 ghost use Rattle.xv_model.specs.declared.operations.Op.TheVariants.{Route};
@@ -17,10 +18,11 @@ ghost use Rattle.router.specs.Passes.{with_write};
 ghost use Rattle.router.specs.Routing.{routed_in, ends_after, messages_after, write_in};
 ghost use Rattle.router.specs.Tables.{StandsFor};
 
-use crate::passes::{pass, send};
+use crate::passes::run;
 use crate::tables::Tables;
 use end_queue::Ends;
 use guest_ram::Ram;
+use std::collections::VecDeque;
 use xv_base::limits::MOST_MESSAGES;
 use xv_model::eas::Eas;
 use xv_model::messages::Message;
@@ -74,7 +76,7 @@ impl Tables {
 fn route_by_eas(
     ends: &mut Ends,
     ram: &mut Ram,
-    messages: &mut Vec<Message>,
+    messages: &mut VecDeque<Message>,
     s: u32,
     eas: &Eas,
 ) -> Routed
@@ -83,14 +85,14 @@ fn route_by_eas(
         → HasPage (length ram.old) (end_in ends.old eas.now.end).config }
     requires room { HasRoom (end_in ends.old eas.now.end) }
     requires payload { eas.now.eisn < 2 ^ 31 }
-    requires free { vec_len messages.old < vec_capacity messages.old }
+    requires free { deque_len messages.old < deque_capacity messages.old }
     ensures routed { result ≡ routed_in ends.old eas.now }
     ensures ends { ends.new ≡ ends_after ends.old eas.now }
     ensures ram { ram.new ≡ with_write (write_in result) ram.old }
     ensures fits { IfSome (write_in result) (λ w. IsTrue (fits (4 * length ram.old) w.addr 4)) }
     ensures messages { messages.new.items ≡ messages_after s ends.old eas.now messages.old.items }
-    ensures few { vec_len messages.new ≤ vec_len messages.old + 1 }
-    ensures capacity { vec_capacity messages.old ≤ vec_capacity messages.new }
+    ensures few { deque_len messages.new ≤ deque_len messages.old + 1 }
+    ensures capacity { deque_capacity messages.old ≤ deque_capacity messages.new }
 {
     if !eas.valid {
         return Routed::NoSource;
@@ -98,7 +100,6 @@ fn route_by_eas(
     if eas.masked {
         return Routed::Masked;
     }
-    let run = pass(ends, ram, eas.end, eas.eisn);
-    send(messages, &run, ends.config(eas.end), s);
+    let run = run(ends, ram, messages, eas.end, eas.eisn, s);
     Routed::Run { run }
 }

@@ -1,6 +1,6 @@
 //! The tables of the router.
 
-ghost use Rattle.std.specs.Prelude.{◌≡◌, ◌<◌, ◌≤◌, ◌*◌, List, [], Some, All, IfOk};
+ghost use Rattle.std.specs.Prelude.{◌≡◌, ◌<◌, ◌≤◌, ◌*◌, List, [], Some, All, IfOk, IfSome};
 ghost use Rattle.std.specs.Prelude.{length, slice_get, vec_len};
 ghost use Rattle.xv_base.specs.Limits.{ends_per_processor, most_messages};
 ghost use Rattle.xv_model.specs.declared.entries.Entry.{Entry};
@@ -9,11 +9,16 @@ ghost use Rattle.xv_model.specs.account.Start.{Start, start, first_eas as first_
 ghost use Rattle.xv_model.specs.source.Notices.{routes as routes_of};
 ghost use Rattle.xv_model.specs.source.Eas.{initialised as is_initialised};
 ghost use Rattle.end_queue.specs.Ends.{HasCountsAtMost};
+ghost use Rattle.std.specs.VecDeque.{deque_len};
+ghost use Rattle.xv_model.specs.route.Flight.{flight};
+ghost use Rattle.xv_model.specs.route.Quiet.{messages_of};
 ghost use Rattle.router.specs.Ends.{IsEnd};
+ghost use Rattle.router.specs.Messages.{IsMessage};
 ghost use Rattle.router.specs.Tables.{AreFirst, StandsFor};
 
 use end_queue::Ends;
 use std::alloc::Global;
+use std::collections::VecDeque;
 use std::marker::Model;
 use xv_base::NoMemory;
 use xv_base::limits::MOST_MESSAGES;
@@ -29,11 +34,12 @@ pub struct Tables {
     pub(crate) eases: Vec<Eas>,
     pub(crate) routes: Vec<u64>,
     pub(crate) ends: Ends,
-    pub(crate) messages: Vec<Message>,
+    pub(crate) messages: VecDeque<Message>,
 }
 
 impl Model for Tables {
-    ghost use Rattle.std.specs.Prelude.{◌≡◌, ◌≤◌, ◌*◌, length, vec_len, vec_capacity, All};
+    ghost use Rattle.std.specs.Prelude.{◌≡◌, ◌≤◌, ◌*◌, length, vec_len, All};
+    ghost use Rattle.std.specs.VecDeque.{deque_len, deque_capacity};
     ghost use Rattle.xv_base.specs.Limits.{ends_per_processor, most_messages};
     ghost use Rattle.xv_model.specs.board.Boards.{IsBoard};
     ghost use Rattle.router.specs.Ends.{IsEnd};
@@ -54,7 +60,7 @@ impl Model for Tables {
         × (vec_len t.eases ≡ t.board.limits.sources) × (vec_len t.routes ≡ t.board.limits.sources)
         × (length t.ends ≡ ends_per_processor * t.board.limits.processors)
         × All (IsEas t.board) t.eases.items × All (IsEnd t.board) t.ends
-        × (vec_len t.messages ≤ most_messages) × (most_messages ≤ vec_capacity t.messages)
+        × (deque_len t.messages ≤ most_messages) × (most_messages ≤ deque_capacity t.messages)
         × All (IsMessage t.board) t.messages.items };
 }
 
@@ -86,6 +92,21 @@ fn first_eases(alloc: Global, board: &Board) -> Result<Vec<Eas>, NoMemory>
     Ok(eases)
 }
 
+/// How many of some messages come from a source.
+fn count_of(messages: &VecDeque<Message>, s: u32) -> u32
+    requires few { deque_len messages.now ≤ most_messages }
+    ensures value { result ≡ messages_of messages.now.items s }
+    ensures few { result ≤ most_messages }
+{
+    let mut n = 0;
+    for i in 0..messages.len() {
+        if messages[i].origin() == s {
+            n += 1;
+        }
+    }
+    n
+}
+
 impl Tables {
     /// The tables of a board on which nothing has happened. May return `NoMemory`; no clause says
     /// when.
@@ -98,7 +119,7 @@ impl Tables {
         let eases = first_eases(alloc, board)?;
         let routes = vec![in alloc; 0; board.limits.sources as usize]?;
         let ends = Ends::build(alloc, board)?;
-        let messages = Vec::with_capacity(alloc, MOST_MESSAGES)?;
+        let messages = VecDeque::with_capacity(alloc, MOST_MESSAGES)?;
         Ok(Tables {
             board: *board,
             eases,
@@ -151,10 +172,21 @@ impl Tables {
         self.messages.len() as u32
     }
 
+    /// How many of them come from a source.
+    pub fn flight_of(&self, s: u32) -> u32
+        ensures value { (z : Start) (h : List Entry)
+            → StandsFor self.now z h → result ≡ messages_of (flight z h) s }
+        ensures messages { result ≡ messages_of self.now.messages s }
+        ensures few { result ≤ most_messages }
+    {
+        count_of(&self.messages, s)
+    }
+
     /// Message `i` of those in flight, of which the oldest is message 0; none exactly where there
     /// are no more than `i`.
     pub fn message(&self, i: u32) -> Option<Message>
         ensures value { result ≡ slice_get self.now.messages i }
+        ensures in_range { IfSome result (IsMessage self.now.board) }
     {
         self.messages.get(i as usize).copied()
     }

@@ -1,6 +1,7 @@
 //! What the tests share: boards, and the tables of a board beside its memory.
 
 mod configuring;
+mod escalating;
 mod pages;
 mod presenting;
 mod queues;
@@ -22,8 +23,9 @@ use xv_base::limits::{
     ENDS_PER_PROCESSOR, MOST_ACTORS, MOST_PROCESSORS, MOST_RAM_MIB, MOST_SOURCES, MOST_THREADS,
 };
 use xv_model::board::{Board, Span, Spans};
+use xv_model::messages::Message;
 use xv_model::operations::{EndConfig, EndFlags, Op};
-use xv_model::outcomes::{EndRun, Outcome, Routed, Then};
+use xv_model::outcomes::{EndRun, Outcome, Presented, Routed, Then};
 use xv_model::validity::valid;
 
 /// One number.
@@ -104,6 +106,18 @@ pub fn config(flags: u8) -> EndConfig {
     }
 }
 
+/// An END with these flags, whose processor is 1 where this is odd, and which escalates to END 7 where they have e.
+fn sender(priority: u8, flags: u8) -> EndConfig {
+    let escalates = flags & 16 == 16;
+    EndConfig {
+        vp: (priority & 1) as u32,
+        priority,
+        esc: if escalates { 7 } else { 0 },
+        esc_eisn: if escalates { 9 } else { 0 },
+        ..config(flags)
+    }
+}
+
 /// Whether each END has room, by what is shown of it.
 fn has_room(tables: &Tables) -> bool
     ensures { IsTrue result → All HasRoom tables.now.ends }
@@ -177,6 +191,20 @@ impl Bench {
         self.tables.route(&mut self.ram, s, forwards)
     }
 
+    /// Takes message `i`, a presentation of which this became, and answers whether it escalates.
+    pub fn end_present(&mut self, rt: &impl Abort, i: u32, presented: Presented) -> bool {
+        assert!(rt; matches!(self.tables.message(i), Some(Message::Present { .. })));
+        self.tables.end_present(i, presented)
+    }
+
+    /// Takes message `i`, an escalation, and answers the pass that this makes.
+    pub fn end_escalate(&mut self, rt: &impl Abort, i: u32) -> Option<EndRun> {
+        assert!(rt; matches!(self.tables.message(i), Some(Message::Escalate { .. })));
+        assert!(rt; has_room(&self.tables));
+        assert!(rt; is_memory_of(self.tables.board(), &self.ram));
+        self.tables.end_escalate(&mut self.ram, i)
+    }
+
     pub fn read(&mut self, rt: &impl Abort, e: u32) -> Outcome {
         assert!(rt; e < ENDS_PER_PROCESSOR * self.tables.board().limits.processors);
         assert!(rt; has_room(&self.tables));
@@ -193,6 +221,13 @@ impl Bench {
             }
             _ => panic!(rt),
         }
+    }
+
+    /// Sends one more message by END 0, with this priority and these flags.
+    pub fn send(&mut self, rt: &impl Abort, number: u64, priority: u8, flags: u8) {
+        self.configure(rt, 0, &sender(priority, flags));
+        assert_eq!(rt; self.set_source_config(rt, &[0, 0, 0, 0, 0]), 0);
+        assert!(rt; matches!(self.routed(rt, number), Routed::Run { run: _ }));
     }
 
     /// What a pass of END 6 wrote for such a notice, and whether it presents.

@@ -1,14 +1,15 @@
 //! What becomes of notices.
 
-use crate::passes::notify;
+use crate::passes::go_on;
 use crate::tests::{Bench, config, largest_board, small_board};
 use bitflags::Flags;
+use end_escalate::decide;
 use end_queue::Ends;
 use std::alloc::Global;
 use std::process::Abort;
 use xv_model::messages::Message;
 use xv_model::operations::{EndConfig, EndFlags};
-use xv_model::outcomes::{EndRun, Outcome, Routed, Then, Wrote};
+use xv_model::outcomes::{EndRun, Outcome, Presented, Routed, Then, Wrote};
 
 #[test]
 fn outcomes_of_a_route(rt: HostRuntime) {
@@ -123,14 +124,14 @@ fn full_bus(rt: HostRuntime) {
     assert_eq!(rt; bench.counts(&rt, 6), (4096, 0));
     // The next entry would stand there, and be of generation 1.
     assert_eq!(rt; bench.word(&rt, 0x4000), 0);
-    assert!(rt; bench.tables.end_present(4096).is_none());
-    assert!(rt; bench.tables.end_present(4095).is_some());
+    assert!(rt; bench.tables.message(4096).is_none());
+    assert!(rt; !bench.end_present(&rt, 4095, Presented::Found));
     assert!(rt; matches!(bench.routed(&rt, 4097), Routed::Run { run: _ }));
     assert!(rt; matches!(bench.route(&rt, 0, 4098), Outcome::BusFull));
 }
 
 /// How END 6 goes on with these flags and from this state, and the state after that.
-fn goes_on(rt: &impl Abort, alloc: Global, flags: u8, esn: u8) -> (Then, u8) {
+fn after_step(rt: &impl Abort, alloc: Global, flags: u8, esn: u8) -> (Then, u8) {
     let ends = &mut match Ends::build(alloc, &small_board()) {
         Ok(ends) => ends,
         Err(_) => panic!(rt),
@@ -144,8 +145,11 @@ fn goes_on(rt: &impl Abort, alloc: Global, flags: u8, esn: u8) -> (Then, u8) {
     ends.configure(6, &config);
     assert!(rt; esn < 4);
     ends.set_esn(6, esn);
-    let then = notify(ends, 6);
-    (then, ends.esn(6))
+    let step = decide(ends.config(6).flags, ends.esn(6));
+    match go_on(ends, 6, step) {
+        Some(then) => (then, ends.esn(6)),
+        None => panic!(rt),
+    }
 }
 
 #[test]
@@ -161,7 +165,7 @@ fn ways_to_go_on(rt: HostRuntime) {
         (81, 0, false, true, 0),
     ];
     for (flags, esn, presents, escalates, after) in cases {
-        let (then, left) = goes_on(&rt, rt.alloc(), flags, esn);
+        let (then, left) = after_step(&rt, rt.alloc(), flags, esn);
         assert_eq!(rt; matches!(then, Then::Present), presents, "at {flags}");
         assert_eq!(rt; matches!(then, Then::Escalate), escalates, "at {flags}");
         assert_eq!(rt; left, after, "at {flags}");

@@ -36,7 +36,7 @@ invariant_of-self c =
       search rules,
       search rules,
       subst (λ (messages : List Message). All (IsMessage i.board) messages) (sym c.route_by_eas-routed.ensures.messages)
-          (messages_in_range i.board c.args.s i.ends a i.messages.items end k.5 k.8),
+          (messages_in_range i.board c.args.s i.ends a i.messages.items end k.3 k.5 k.8),
     )
 
 pub returns-clause-outcome : goal.returns-clause-outcome
