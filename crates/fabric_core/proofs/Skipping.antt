@@ -17,7 +17,7 @@ use Rattle.presenter.specs.Contexts.{ipb_in}
 use Rattle.fabric_core.specs.Processors.{Parts, IsProcessor, StandsFor as ProcessorsStandFor, cppr_in}
 use Rattle.fabric_core.specs.Fabric.{Held, StandsFor}
 
-memory-skips : (memory : List ℕ) (z : Start) (h : List Entry) (x : Entry) → is_fabric z.board x.op ≡ false → MemoryStandsFor memory z h → MemoryStandsFor memory z (x ∷ h)
+pub memory-skips : (memory : List ℕ) (z : Start) (h : List Entry) (x : Entry) → is_fabric z.board x.op ≡ false → MemoryStandsFor memory z h → MemoryStandsFor memory z (x ∷ h)
 memory-skips memory z h x other st = record {
   size = st.size;
   words = λ i l. st.words i l ∙ ap Some (sym (word_at-skips z _ x h other));
@@ -38,7 +38,7 @@ processor-skips vps rings z h x v other st =
       no_ipb = λ off. st.no_ipb (sym (ap is_saved at) ∙ off);
     }
 
-processors-skip : (p : Parts) (z : Start) (h : List Entry) (x : Entry) → is_fabric z.board x.op ≡ false → ProcessorsStandFor p z h → ProcessorsStandFor p z (x ∷ h)
+pub processors-skip : (p : Parts) (z : Start) (h : List Entry) (x : Entry) → is_fabric z.board x.op ≡ false → ProcessorsStandFor p z h → ProcessorsStandFor p z (x ∷ h)
 processors-skip p z h x other st = record {
   servers_are = st.servers_are;
   processors = st.processors;

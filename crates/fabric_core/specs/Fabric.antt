@@ -1,5 +1,5 @@
 -- What a fabric keeps and shows, and which account it represents.
-use Rattle.std.specs.Prelude.{ℕ, ℤ, ◌≡◌, ◌<◌, ◌⊎◌, true, false, List}
+use Rattle.std.specs.Prelude.{⊤, ℕ, ℤ, ◌≡◌, ◌<◌, ◌⊎◌, true, false, List}
 use Rattle.xv_model.specs.declared.board.Board.{Board}
 use Rattle.xv_model.specs.declared.entries.Entry.{Entry}
 use Rattle.xv_model.specs.declared.operations.Op.{Op}
@@ -33,16 +33,17 @@ pub record StandsFor (f : Held) (z : Start) (h : List Entry) : Type 0 where
   pub memory : MemoryStandsFor f.memory z h
   pub processors : ProcessorsStandFor f.processors z h
 
--- where an operation routes a notice of a source, this is how often that one forwarded
+-- where an operation routes a notice of a source, or asks whether it is quiet, this is how often that one forwarded
 abbrev pub IsCounted : Op → ℕ → Start → List Entry → Type 0
-IsCounted o n z h = (s : ℕ) → o ≡ op.Route s → n ≡ forwards z h s
+IsCounted o n z h = (s : ℕ) → (o ≡ op.Route s) ⊎ (o ≡ op.Quiet s) → n ≡ forwards z h s
 
--- what an operation answers where it is refused, and changes nothing
+-- what an operation answers where it changes nothing: it is refused, or it only asks
 abbrev pub IsRefusal : Op → Outcome → Type 0
 IsRefusal (op.Esb s page offset store) u = (u ≡ out.BadOffset) ⊎ (u ≡ out.Ones)
 IsRefusal (op.EndEsb e page offset store) u = (u ≡ out.BadOffset) ⊎ (u ≡ out.NoEnd)
 IsRefusal (op.Route s) u = (u ≡ out.NoNotice) ⊎ (u ≡ out.BusFull)
 IsRefusal (op.Take i) u = u ≡ out.NoMessage
+IsRefusal (op.Quiet s) u = ⊤
 IsRefusal (op.Connect v) u = (code : ℤ) × (u ≡ out.Code code) × (is_success code ≡ false)
 IsRefusal (op.Restore v t) u = (why : MoveRefused) × (u ≡ out.Refused why)
 IsRefusal (op.Save v) u = (why : MoveRefused) × (u ≡ out.Refused why)

@@ -5,7 +5,7 @@ ghost use Rattle.xv_model.specs.declared.entries.Entry.{Entry};
 ghost use Rattle.xv_model.specs.declared.operations.Op.TheVariants.{Take, Tima};
 ghost use Rattle.xv_model.specs.declared.outcomes.MoveRefused.{MoveRefused};
 ghost use Rattle.xv_model.specs.declared.outcomes.Outcome.TheVariants.{BadAccess as AnswersBadAccess, NoMessage, Refused};
-ghost use Rattle.xv_model.specs.account.Kinds.{is_fabric, run_of};
+ghost use Rattle.xv_model.specs.account.Kinds.{access_of};
 ghost use Rattle.xv_model.specs.account.Legal.{legal};
 ghost use Rattle.xv_model.specs.account.Outcomes.{IsWellFormed};
 ghost use Rattle.xv_model.specs.account.Start.{Start};
@@ -14,55 +14,66 @@ ghost use Rattle.xv_model.specs.route.Taking.{take_outcome};
 ghost use Rattle.xv_model.specs.processor.Accesses.{tima_outcome};
 ghost use Rattle.guest_ram.specs.Ram.{StandsFor as MemoryStandsFor};
 ghost use Rattle.router.specs.Tables.{StandsFor as TablesStandFor};
-ghost use Rattle.router.specs.Presenting.{ended};
 ghost use Rattle.end_queue.specs.Ends.{HasRoom, HasCountsAtMost};
 ghost use Rattle.fabric_core.specs.Fabric.{IsCounted, IsRefusal};
 ghost use Rattle.fabric_core.specs.Processors.{StandsFor as ProcessorsStandFor};
 
 use crate::memory::{peek, zero};
 use crate::processors::Processors;
+use bitflags::Flags;
 use guest_ram::Ram;
-use router::presenting::Presentation;
 use router::tables::Tables;
 use tima_access::{BadAccess, decode};
-use xv_model::operations::{Access, Op};
-use xv_model::outcomes::{Outcome, Presented};
+use xv_model::messages::Message;
+use xv_model::operations::{Access, EndFlags, Op};
+use xv_model::outcomes::Outcome;
 
-/// What taking a message answers, by what became of it.
-fn answer_of(message: Presentation, presented: Presented) -> Outcome
-    ensures { result ≡ ended message presented }
-{
-    let undelivered = matches!(presented, Presented::Backlogged | Presented::Lost);
-    Outcome::Present {
-        v: message.vp,
-        p: message.priority,
-        presented,
-        escalates: undelivered && message.escalates,
-    }
-}
-
-/// Takes message `i` of those in flight, and presents it. Where there is none, nothing changes.
-fn take(tables: &mut Tables, processors: &mut Processors, i: u32) -> Outcome
+/// Takes message `i` of those in flight: a presentation is presented, and an escalation runs its END. Where there
+/// is none, nothing changes.
+fn take(tables: &mut Tables, ram: &mut Ram, processors: &mut Processors, i: u32) -> Outcome
+    requires memory { 4 * length ram.old ≡ ram_size tables.old.board }
     requires count { length processors.old.vps.vps ≡ tables.old.board.limits.processors }
+    requires room { All HasRoom tables.old.ends }
     ensures outcome { (z : Start) (h : List Entry) → TablesStandFor tables.old z h
         → ProcessorsStandFor processors.old z h → result ≡ take_outcome z h i }
     ensures tables { (z : Start) (h : List Entry) (actor : ℕ) → TablesStandFor tables.old z h
         → TablesStandFor tables.new z (record { actor = actor; op = Take i; outcome = result } ∷ h) }
+    ensures memory { (z : Start) (h : List Entry) (actor : ℕ) → MemoryStandsFor ram.old z h
+        → MemoryStandsFor ram.new z (record { actor = actor; op = Take i; outcome = result } ∷ h) }
     ensures processors { (z : Start) (h : List Entry) (actor : ℕ) → ProcessorsStandFor processors.old z h
         → ProcessorsStandFor processors.new z (record { actor = actor; op = Take i; outcome = result } ∷ h) }
-    ensures refused { result ≡ NoMessage → (tables.new ≡ tables.old) × (processors.new ≡ processors.old) }
-    ensures no_run { run_of (Take i) result ≡ None }
+    ensures refused { result ≡ NoMessage → (tables.new ≡ tables.old) × (ram.new ≡ ram.old)
+        × (processors.new ≡ processors.old) }
     ensures board { tables.new.board ≡ tables.old.board }
-    ensures counts { tables.new.ends ≡ tables.old.ends }
+    ensures counts { (n : ℕ) → All (HasCountsAtMost n) tables.old.ends → All (HasCountsAtMost (n + 1)) tables.new.ends }
+    ensures size { length ram.new ≡ length ram.old }
     ensures vps { length processors.new.vps.vps ≡ length processors.old.vps.vps }
     ensures rings { length processors.new.rings ≡ length processors.old.rings }
     ensures well_formed { IsWellFormed result }
 {
-    let Some(message) = tables.end_present(i) else {
-        return Outcome::NoMessage;
-    };
-    let presented = processors.present(message.vp, message.priority, message.backlog);
-    answer_of(message, presented)
+    match tables.message(i) {
+        None => Outcome::NoMessage,
+        Some(
+            Message::Present {
+                flags,
+                vp,
+                priority,
+                ..
+            },
+        ) => {
+            let presented = processors.present(vp, priority, flags.contains(EndFlags::BACKLOG));
+            Outcome::Present {
+                v: vp,
+                p: priority,
+                presented,
+                escalates: tables.end_present(i, presented),
+            }
+        }
+        Some(Message::Escalate { e, .. }) => Outcome::Escalated {
+            e,
+            run: tables.end_escalate(ram, i),
+        },
+    }
 }
 
 /// What an access to a page of the TIMA answers. A bad one changes nothing, nor does one that is refused.
@@ -93,7 +104,9 @@ fn access_tima(
 }
 
 /// What an operation answers. The parts then represent the account with that entry. Refused, it changes none of them.
-/// `forwards` is how often the source has forwarded whose notice is routed; no other operation looks at it.
+/// `forwards` is how often the source has forwarded whose notice is routed, or that may be quiet; no other operation
+/// looks at it.
+#[inline(never)]
 pub(crate) fn answer(
     tables: &mut Tables,
     ram: &mut Ram,
@@ -102,7 +115,7 @@ pub(crate) fn answer(
     forwards: u64,
 ) -> Outcome
     requires op { IsTrue (valid tables.old.board op.now) }
-    requires fabric { is_fabric tables.old.board op.now ≡ true }
+    requires fabric { access_of tables.old.board op.now ≡ None }
     requires memory { 4 * length ram.old ≡ ram_size tables.old.board }
     requires vps { length processors.old.vps.vps ≡ tables.old.board.limits.processors }
     requires rings { length processors.old.rings ≡ tables.old.board.limits.threads }
@@ -145,7 +158,8 @@ pub(crate) fn answer(
             store,
         } => tables.access_end(*e, *page, *offset, *store),
         Op::Route { s } => tables.route(ram, *s, forwards),
-        Op::Take { i } => take(tables, processors, *i),
+        Op::Take { i } => take(tables, ram, processors, *i),
+        Op::Quiet { s } => tables.quiet(*s, forwards),
         Op::EndSet { e, config } => {
             tables.configure(*e, config);
             Outcome::Fine

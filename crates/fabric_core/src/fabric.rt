@@ -4,7 +4,7 @@ ghost use Rattle.std.specs.Prelude.{◌≡◌, ◌+◌, ◌*◌, ◌<◌, ◌≤
 ghost use Rattle.xv_base.specs.Limits.{ends_per_processor, most_messages};
 ghost use Rattle.xv_model.specs.declared.entries.Entry.{Entry as AnEntry};
 ghost use Rattle.xv_model.specs.board.Boards.{IsBoard};
-ghost use Rattle.xv_model.specs.account.Kinds.{is_fabric};
+ghost use Rattle.xv_model.specs.account.Kinds.{access_of};
 ghost use Rattle.xv_model.specs.account.Legal.{legal};
 ghost use Rattle.xv_model.specs.account.Outcomes.{IsWellFormed};
 ghost use Rattle.xv_model.specs.account.Start.{Start, start};
@@ -12,6 +12,7 @@ ghost use Rattle.xv_model.specs.board.Validity.{valid};
 ghost use Rattle.xv_model.specs.source.Notices.{routes as routes_of};
 ghost use Rattle.xv_model.specs.source.Eas.{initialised as is_initialised};
 ghost use Rattle.xv_model.specs.route.Flight.{flight as flight_after};
+ghost use Rattle.xv_model.specs.route.Quiet.{messages_of};
 ghost use Rattle.end_queue.specs.Ends.{HasRoom, HasCountsAtMost, end_in};
 ghost use Rattle.fabric_core.specs.Fabric.{StandsFor, IsCounted, IsQueue, IsRefusal, queue_view};
 ghost use Rattle.fabric_core.specs.Processors.{vp_of, ring_shown};
@@ -150,14 +151,22 @@ impl Fabric {
         self.tables.flight()
     }
 
-    /// Makes one entry: what an operation by an actor answers that is on no word of a source and not quiet.
-    /// The board has the operation. `forwards` is how often the source has forwarded whose notice is routed; no
-    /// other operation looks at it. No END has come to the limit of its counts: since it was configured, fewer than
-    /// 2^63 entries were written into its queue, and fewer than that taken from it (end_queue's `HasRoom`; `queue`
-    /// shows both counts). Refused, it changes nothing.
+    /// How many of them come from a source.
+    pub fn flight_of(&self, s: u32) -> u32
+        ensures { (z : Start) (h : List AnEntry) → StandsFor self.now z h → result ≡ messages_of (flight_after z h) s }
+    {
+        self.tables.flight_of(s)
+    }
+
+    /// Makes one entry: what an operation by an actor answers that is on no word of a source. The board has the
+    /// operation. `forwards` is how often the source has forwarded whose notice is routed, or that is asked whether
+    /// it is quiet; no other operation looks at it. No END has come to the limit of its counts: since it was
+    /// configured, fewer than 2^63 entries were written into its queue, and fewer than that taken from it
+    /// (end_queue's `HasRoom`; `queue` shows both counts). Refused, it changes nothing; nor does one that asks
+    /// whether a source is quiet.
     pub fn step(&mut self, actor: u32, op: &Op, forwards: u64) -> Entry
         requires op { IsTrue (valid self.old.tables.board op.now) }
-        requires fabric { is_fabric self.old.tables.board op.now ≡ true }
+        requires fabric { access_of self.old.tables.board op.now ≡ None }
         requires room { All HasRoom self.old.tables.ends }
         ensures actor { result.actor ≡ actor }
         ensures op { result.op ≡ op.now }

@@ -10,7 +10,7 @@ mod routes;
 
 ghost use Rattle.std.specs.Prelude.{◌≡◌, ◌+◌, IsTrue, None, true, false};
 ghost use Rattle.xv_model.specs.board.Boards.{IsBoard, AreBelow};
-ghost use Rattle.xv_model.specs.account.Kinds.{is_fabric as is_of_fabric};
+ghost use Rattle.xv_model.specs.account.Kinds.{access_of};
 ghost use Rattle.xv_model.specs.source.Pages.{page_op};
 
 use crate::tests::operations::{config, target};
@@ -92,12 +92,12 @@ fn touches(eoi: bool, page: u8, offset: u16, store: bool) -> bool
     }
 }
 
-/// Whether an operation is on no word of a source and not quiet, on a board with two pages a source.
-fn is_fabric(board: &Board, op: &Op) -> bool
-    ensures { IsTrue result → is_of_fabric board.now op.now ≡ true }
+/// Whether an operation is on no word of a source, on a board with two pages a source.
+fn is_on_no_word(board: &Board, op: &Op) -> bool
+    ensures { IsTrue result → access_of board.now op.now ≡ None }
 {
     match *op {
-        Op::Pq { .. } | Op::Quiet { .. } => false,
+        Op::Pq { .. } => false,
         Op::Esb {
             s: _,
             page,
@@ -168,7 +168,7 @@ impl Bench {
     /// What an operation answers that routes nothing, or the notice of a source that forwarded so often.
     fn answer(&mut self, rt: &impl Abort, op: &Op, forwards: u64) -> Outcome {
         assert!(rt; valid(self.fabric.board(), op));
-        assert!(rt; is_fabric(self.fabric.board(), op));
+        assert!(rt; is_on_no_word(self.fabric.board(), op));
         assert!(rt; self.count < MOST_ENTRIES);
         let entry = self.fabric.step(1, op, forwards);
         self.count += 1;
@@ -273,6 +273,10 @@ impl Bench {
 
     pub fn flight(&self) -> u32 {
         self.fabric.flight()
+    }
+
+    pub fn flight_of(&self, s: u32) -> u32 {
+        self.fabric.flight_of(s)
     }
 
     /// How many notices of a source were routed.

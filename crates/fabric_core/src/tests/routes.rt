@@ -224,6 +224,7 @@ fn as_many_messages_as_there_is_room_for(rt: HostRuntime) {
     }
     assert!(rt; matches!(b.route(&rt, 0, 5000), Outcome::BusFull));
     assert_eq!(rt; (b.flight(), b.routes(&rt, 0)), (4096, 4096));
+    assert_eq!(rt; (b.flight_of(0), b.flight_of(1)), (4096, 0));
     assert!(rt; matches!(b.step(&rt, Op::Take { i: 4096 }), Outcome::NoMessage));
     assert!(rt; matches!(b.take(&rt, 4095, 0, 3), Presented::Lost));
     assert_eq!(rt; b.flight(), 4095);

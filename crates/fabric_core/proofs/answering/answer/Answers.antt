@@ -1,5 +1,5 @@
-use Rattle.std.proofs.Common.{ℕ, ◌≡◌, true, List, ◌∷◌, refl, sym, ◌∙◌, ap, subst, inl, inr}
-use Rattle.std.proofs.lemmas.Bool.{eqb-true}
+use Rattle.std.proofs.Common.{ℕ, ◌≡◌, nat_lt, true, List, ◌∷◌, refl, sym, ◌∙◌, ap, subst, inl, inr}
+use Rattle.std.proofs.lemmas.Bool.{and_parts, eqb-true}
 use Rattle.xv_model.specs.declared.entries.Entry.{Entry}
 use Rattle.xv_model.specs.declared.hypercalls.TheConstants.{H_INT_SET_SOURCE_CONFIG}
 use Rattle.xv_model.specs.declared.operations.Op.{Op}
@@ -8,14 +8,15 @@ use Rattle.xv_model.specs.declared.outcomes.Outcome.{Outcome}
 use Rattle.xv_model.specs.declared.outcomes.Outcome.TheVariants as out
 use Rattle.xv_model.specs.account.Legal.{legal}
 use Rattle.xv_model.specs.account.Start.{Start}
-use Rattle.xv_model.specs.board.Validity.{valid}
+use Rattle.xv_model.specs.board.Validity.{valid, end_count, may_be_configured, valid_config}
 use Rattle.guest_ram.specs.Ram.{StandsFor as MemoryStandsFor}
+use Rattle.router.proofs.Keeping.{word_keeps}
 use Rattle.router.proofs.Ranges.{one_more_in_all}
 use Rattle.router.specs.Tables.{Kept, StandsFor as TablesStandFor}
 use Rattle.fabric_core.specs.Fabric.{IsRefusal}
 use Rattle.fabric_core.specs.Processors.{Parts, StandsFor as ProcessorsStandFor}
 use Rattle.fabric_core.proofs.Kept.{kept_connect, reply_fails}
-use Rattle.fabric_core.proofs.Remembering.{memory_kept}
+use Rattle.fabric_core.proofs.Skipping.{memory-skips, processors-skip}
 use Rattle.fabric_core.proofs.answering.answer.Goals as goal
 
 -- ---- an operation by its variant
@@ -38,11 +39,35 @@ returns-in-EndEsb-clause-tables c = λ z h actor st ps counted.
 
 pub returns-in-Route-clause-tables : goal.returns-in-Route-clause-tables
 returns-in-Route-clause-tables c = λ z h actor st ps counted.
-    tables_of _ z h actor _ _ _ c.in-Route.is (c.route.ensures.stands z h actor st (counted c.in-Route.s c.in-Route.is))
+    tables_of _ z h actor _ _ _ c.in-Route.is (c.route.ensures.stands z h actor st (counted c.in-Route.s (inl c.in-Route.is)))
 
 pub returns-in-Take-clause-tables : goal.returns-in-Take-clause-tables
 returns-in-Take-clause-tables c = λ z h actor st ps counted.
     tables_of _ z h actor _ _ _ c.in-Take.is (c.take.ensures.tables z h actor st)
+
+-- a source that is asked whether it is quiet leaves all as it was
+pub returns-in-Quiet-clause-tables : goal.returns-in-Quiet-clause-tables
+returns-in-Quiet-clause-tables c = λ z h actor st ps counted.
+    tables_of _ z h actor _ _ _ c.in-Quiet.is (word_keeps _ z h (record { actor = actor; op = op.Quiet c.in-Quiet.s; outcome = c.quiet.result }) refl st)
+
+pub returns-in-Quiet-clause-memory : goal.returns-in-Quiet-clause-memory
+returns-in-Quiet-clause-memory c = λ z h actor ms.
+    memory_of _ z h actor _ _ _ c.in-Quiet.is (memory-skips _ z h (record { actor = actor; op = op.Quiet c.in-Quiet.s; outcome = c.quiet.result }) refl ms)
+
+pub returns-in-Quiet-clause-processors : goal.returns-in-Quiet-clause-processors
+returns-in-Quiet-clause-processors c = λ z h actor ps.
+    processors_of _ z h actor _ _ _ c.in-Quiet.is (processors-skip _ z h (record { actor = actor; op = op.Quiet c.in-Quiet.s; outcome = c.quiet.result }) refl ps)
+
+pub returns-in-Quiet-clause-outcome : goal.returns-in-Quiet-clause-outcome
+returns-in-Quiet-clause-outcome c = λ z h st ms ps counted.
+    c.quiet.ensures.outcome z h st (counted c.in-Quiet.s (inr c.in-Quiet.is)) ∙ ap (legal z h) (sym c.in-Quiet.is)
+
+pub configure-requires-clause-config : goal.configure-requires-clause-config
+configure-requires-clause-config c =
+    let b = c.args.tables.now.board in
+    let w = subst (λ p. valid b p ≡ true) c.in-EndSet.is c.requires.op in
+    let may = (and_parts (nat_lt c.in-EndSet.e (end_count b)) (may_be_configured b c.in-EndSet.e c.in-EndSet.config) w).1 in
+    (and_parts (valid_config b c.in-EndSet.config) _ may).0
 
 pub returns-in-EndSet-clause-tables : goal.returns-in-EndSet-clause-tables
 returns-in-EndSet-clause-tables c = λ z h actor st ps counted.
@@ -108,7 +133,7 @@ returns-in-Zero-clause-memory c = λ z h actor ms.
 
 pub returns-in-Take-clause-memory : goal.returns-in-Take-clause-memory
 returns-in-Take-clause-memory c = λ z h actor ms.
-    memory_of _ z h actor _ _ _ c.in-Take.is (memory_kept c.args.ram.now z h (record { actor = actor; op = op.Take c.in-Take.i; outcome = c.take.result }) (λ a. rw c.take.ensures.no_run refl) ms)
+    memory_of _ z h actor _ _ _ c.in-Take.is (c.take.ensures.memory z h actor ms)
 
 -- ---- what is refused, by the operation
 pub returns-in-EndEsb-clause-refused : goal.returns-in-EndEsb-clause-refused
@@ -121,8 +146,7 @@ returns-in-Route-clause-refused c = λ r.
 
 pub returns-in-Take-clause-refused : goal.returns-in-Take-clause-refused
 returns-in-Take-clause-refused c = λ r.
-    let same = c.take.ensures.refused (subst (λ (p : Op). IsRefusal p c.take.result) c.in-Take.is r) in
-    (same.0, refl, same.1)
+    c.take.ensures.refused (subst (λ (p : Op). IsRefusal p c.take.result) c.in-Take.is r)
 
 pub returns-in-EndSet-clause-refused : goal.returns-in-EndSet-clause-refused
 returns-in-EndSet-clause-refused c = λ r. absurd (subst (λ (p : Op). IsRefusal p out.Fine) c.in-EndSet.is r)
