@@ -21,7 +21,7 @@ use Rattle.esb_pq.specs.Word.{SourceParts}
 use Rattle.esb_pq.specs.Applied.{cell_at}
 use Rattle.router.proofs.Elements.{read}
 use Rattle.fabric_core.specs.Fabric.{Held as FabricHeld, StandsFor as FabricStandsFor}
-use Rattle.machine.specs.Answering.{forwarded_in, consumed_in, forwards_for}
+use Rattle.machine.specs.Answering.{forwarded_in, consumed_in, forwards_in, forwards_for}
 use Rattle.machine.specs.Machine.{Held, AreParts, StandsFor, word_of}
 use Rattle.machine.proofs.Words.{IsOn, answer_at, word_past, word_parts, word_legal}
 use Rattle.machine.proofs.Notices.{routes_s, word_notices, word_consumes, on_no_word, unrouted, quiet_notices, routed_within, route_notices, route_forwards}
@@ -48,11 +48,16 @@ word_steps f words z h x s o level w w' d st on l is found answer now =
       notices = omega (arith, consumes, more);
     }
 
--- how often the source forwarded whose notice an operation routes, by the words
-pub counted : (f : FabricHeld) (words : List SourceParts) (z : Start) (h : List Entry) (p : Op) (s : ℕ) → AreParts f words z h → s < z.board.limits.sources → p ≡ op.Route s →
+-- the count that an operation asks for is that of its source's word
+pub forwards_asked : (words : List SourceParts) (p : Op) (s : ℕ) → (p ≡ op.Route s) ⊎ (p ≡ op.Quiet s) → forwards_for words p ≡ forwards_in words s
+forwards_asked words p s (inl e) = ap (forwards_for words) e
+forwards_asked words p s (inr e) = ap (forwards_for words) e
+
+-- how often the source forwarded whose notice an operation routes, or that it asks whether it is quiet, by the words
+pub counted : (f : FabricHeld) (words : List SourceParts) (z : Start) (h : List Entry) (p : Op) (s : ℕ) → AreParts f words z h → s < z.board.limits.sources → (p ≡ op.Route s) ⊎ (p ≡ op.Quiet s) →
     forwards_for words p ≡ forwards z h s
 counted f words z h p s st l is =
-    ap (forwards_for words) is
+    forwards_asked words p s is
     ∙ ap (λ (w : SourceParts). w.count) (read words s z.board.limits.sources _ (record { pq = 0; asserted = false; count = 0 }) (word_of z h) st.words l refl)
 
 -- the parts after an entry on no word, with the fabric after it
@@ -77,6 +82,11 @@ fabric_parts f f' words z h x st none after within = record {
 -- a valid route names a source
 pub valid_route : (b : Board) (p : Op) (s : ℕ) → p ≡ op.Route s → valid b p ≡ true → s < b.limits.sources
 valid_route b p s e v = ltb-true s b.limits.sources (subst (λ p. valid b p ≡ true) e v)
+
+-- so does one that asks whether it is quiet
+pub valid_source : (b : Board) (p : Op) (s : ℕ) → (p ≡ op.Route s) ⊎ (p ≡ op.Quiet s) → valid b p ≡ true → s < b.limits.sources
+valid_source b p s (inl e) v = valid_route b p s e v
+valid_source b p s (inr e) v = ltb-true s b.limits.sources (subst (λ p. valid b p ≡ true) e v)
 
 -- an operation is a route, or it isn't
 route_or_not : (o : Op) → ((s : ℕ) × (o ≡ op.Route s)) ⊎ ((s : ℕ) → o ≢ op.Route s)
@@ -120,6 +130,10 @@ fabric_steps f f' words z h x st none v answer stands = by (route_or_not x.op)
           parts = fabric_parts f f' words z h x st none stands (λ q. subst (λ n. n ≤ forwards z h q) (sym (unrouted z h x unrouted_here q)) (st.forwarded q));
           notices = omega (arith, same, consumes, forwards_none);
         }
+
+-- an entry by its parts
+pub entry_of : (x : Entry) (actor : ℕ) (o : Op) → x.actor ≡ actor → x.op ≡ o → x ≡ record { actor = actor; op = o; outcome = x.outcome }
+entry_of x actor o a e = ap (λ v. record { actor = v; op = x.op; outcome = x.outcome }) a ∙ ap (λ p. record { actor = actor; op = p; outcome = x.outcome }) e
 
 -- the machine after a step, whose parts represent the account with the entry
 pub stands_after : (m m' : Held) (z : Start) (h : List Entry) (x : Entry) → StandsFor m z h → AreParts m'.fabric m'.words z (x ∷ h) →

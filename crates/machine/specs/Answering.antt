@@ -30,7 +30,12 @@ abbrev pub as_access : Option WordAccess → Option AnAccess
 as_access (Some a) = Some (record { source = a.s; op = a.op })
 as_access None = None
 
--- how often the source forwarded whose notice an operation routes
+-- how often the source of this number forwarded
+abbrev pub forwards_in : List SourceParts → ℕ → ℕ
+forwards_in words s = (slice_index_or words s (record { pq = 0; asserted = false; count = 0 })).count
+
+-- how often the source forwarded whose notice an operation routes, or that it asks whether it is quiet
 abbrev pub forwards_for : List SourceParts → Op → ℕ
-forwards_for words (op.Route s) = (slice_index_or words s (record { pq = 0; asserted = false; count = 0 })).count
+forwards_for words (op.Route s) = forwards_in words s
+forwards_for words (op.Quiet s) = forwards_in words s
 forwards_for words _ = 0

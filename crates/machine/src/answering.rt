@@ -1,8 +1,8 @@
 //! What an operation answers, and what it does to the fabric and to its source's word.
 
-ghost use Rattle.std.specs.Prelude.{◌≡◌, ◌+◌, ◌≤◌, ◌∷◌, ℕ, ◌<◌, All, length, List, IsTrue};
-ghost use Rattle.xv_model.specs.declared.entries.Entry.{Entry as AnEntry};
-ghost use Rattle.xv_model.specs.declared.operations.Op.TheVariants.{Route};
+ghost use Rattle.std.specs.Prelude.{◌≡◌, ◌⊎◌, ◌+◌, ◌≤◌, ◌∷◌, ℕ, ◌<◌, All, length, List, IsTrue};
+ghost use Rattle.xv_model.specs.declared.entries.Entry.{Entry};
+ghost use Rattle.xv_model.specs.declared.operations.Op.TheVariants.{Quiet, Route};
 ghost use Rattle.xv_model.specs.account.Start.{Start};
 ghost use Rattle.xv_model.specs.source.Notices.{all_outstanding};
 ghost use Rattle.xv_model.specs.account.Legal.{legal};
@@ -15,59 +15,53 @@ ghost use Rattle.machine.specs.Machine.{AreLevels, AreParts};
 use crate::accessing::{touch, word_access};
 use esb_pq::SourceWord;
 use fabric_core::Fabric;
-use xv_model::entries::Entry;
 use xv_model::operations::Op;
 use xv_model::outcomes::Outcome;
 
-/// How often the source forwarded whose notice an operation routes; 0 for any other operation.
+/// How often the source forwarded whose notice an operation routes, or that it asks whether it is quiet; 0 for any
+/// other operation.
 fn forwards(words: &[SourceWord], op: &Op) -> u64
-    requires op { (s : ℕ) → op.now ≡ Route s → s < length words.now }
+    requires op { (s : ℕ) → (op.now ≡ Route s) ⊎ (op.now ≡ Quiet s) → s < length words.now }
     ensures { result ≡ forwards_for words.now op.now }
 {
     match op {
-        Op::Route { s } => words[*s as usize].count(),
+        Op::Route { s } | Op::Quiet { s } => words[*s as usize].count(),
         _ => 0,
     }
 }
 
-/// Makes an entry: what an operation answers. The fabric and the words then represent the account with it.
+/// What an operation by an actor answers. The fabric and the words then represent the account with its entry.
 pub(crate) fn enter(
     fabric: &mut Fabric,
     words: &mut [SourceWord],
     levels: &[bool],
     actor: u32,
     op: &Op,
-) -> Entry
+) -> Outcome
     requires op { IsTrue (valid fabric.old.tables.board op.now) }
     requires words { length words.old ≡ fabric.old.tables.board.limits.sources }
     requires sources { length levels.now ≡ fabric.old.tables.board.limits.sources }
     requires levels { AreLevels fabric.old.tables.board levels.now }
     requires room { All HasRoom fabric.old.tables.ends }
-    ensures actor { result.actor ≡ actor }
-    ensures op { result.op ≡ op.now }
-    ensures outcome { (z : Start) (h : List AnEntry) → AreParts fabric.old words.old z h → result.outcome ≡ legal z h op.now }
-    ensures parts { (z : Start) (h : List AnEntry) → AreParts fabric.old words.old z h
-        → AreParts fabric.new words.new z (result ∷ h) }
-    ensures notices { (z : Start) (h : List AnEntry) → AreParts fabric.old words.old z h
-        → all_outstanding z (result ∷ h) + consumed_in result.outcome
-        ≡ all_outstanding z h + forwarded_in result.outcome }
-    ensures well_formed { IsWellFormed result.outcome }
+    ensures outcome { (z : Start) (h : List Entry) → AreParts fabric.old words.old z h → result ≡ legal z h op.now }
+    ensures parts { (z : Start) (h : List Entry) → AreParts fabric.old words.old z h
+        → AreParts fabric.new words.new z (record { actor = actor; op = op.now; outcome = result } ∷ h) }
+    ensures notices { (z : Start) (h : List Entry) → AreParts fabric.old words.old z h
+        → all_outstanding z (record { actor = actor; op = op.now; outcome = result } ∷ h) + consumed_in result
+        ≡ all_outstanding z h + forwarded_in result }
+    ensures well_formed { IsWellFormed result }
     ensures board { fabric.new.tables.board ≡ fabric.old.tables.board }
     ensures counts { (n : ℕ) → All (HasCountsAtMost n) fabric.old.tables.ends
         → All (HasCountsAtMost (n + 1)) fabric.new.tables.ends }
     ensures len { length words.new ≡ length words.old }
 {
     match word_access(fabric.board(), levels, op) {
-        Some(access) => Entry {
-            actor,
-            op: *op,
-            outcome: touch(
-                &mut words[access.s as usize],
-                levels[access.s as usize],
-                access.op,
-            ),
-        },
-        None => fabric.step(actor, op, forwards(words, op)),
+        Some(access) => touch(
+            &mut words[access.s as usize],
+            levels[access.s as usize],
+            access.op,
+        ),
+        None => fabric.step(actor, op, forwards(words, op)).outcome,
     }
 }
 

@@ -164,12 +164,14 @@ impl Machine {
         ensures stands { (z : Start) (h : List AnEntry)
             → StandsFor self.old z h → StandsFor self.new z (result ∷ h) }
     {
-        let entry = enter(&mut self.fabric, &mut self.words, &self.levels, actor, op);
+        let outcome = enter(&mut self.fabric, &mut self.words, &self.levels, actor, op);
         self.count += 1;
         // A notice that is consumed was outstanding.
-        self.notices = (self.notices + notices_of(&entry.outcome)).saturating_sub(consumed_by(
-            &entry.outcome,
-        ));
-        entry
+        self.notices = (self.notices + notices_of(&outcome)).saturating_sub(consumed_by(&outcome));
+        Entry {
+            actor,
+            op: *op,
+            outcome,
+        }
     }
 }

@@ -1,4 +1,4 @@
-use Rattle.std.proofs.Common.{◌≡◌, ◌<◌, true, List, None, refl, sym, ◌∙◌, ap, subst, slice_index_or, slice_set}
+use Rattle.std.proofs.Common.{◌≡◌, ◌<◌, ◌+◌, true, List, ◌∷◌, None, refl, sym, ◌∙◌, ap, subst, slice_index_or, slice_set}
 use Rattle.xv_model.specs.declared.board.Board.{Board}
 use Rattle.xv_model.specs.declared.entries.Entry.{Entry}
 use Rattle.xv_model.specs.account.Start.{Start}
@@ -7,8 +7,10 @@ use Rattle.xv_model.specs.account.Legal.{legal}
 use Rattle.xv_model.specs.board.Boards.{is_level}
 use Rattle.xv_model.specs.board.Validity.{valid}
 use Rattle.fabric_core.specs.Fabric.{IsCounted}
+use Rattle.xv_model.specs.source.Notices.{all_outstanding}
+use Rattle.machine.specs.Answering.{consumed_in, forwarded_in}
 use Rattle.machine.specs.Machine.{AreParts}
-use Rattle.machine.proofs.Stepping.{Steps, word_steps, fabric_steps, counted, valid_route}
+use Rattle.machine.proofs.Stepping.{Steps, word_steps, fabric_steps, counted, entry_of, valid_source}
 use Rattle.machine.proofs.answering.enter.Goals as goal
 
 word : (c : goal.After-touch) (z : Start) (h : List Entry) → AreParts c.args.fabric.now c.args.words.now z h →
@@ -31,10 +33,10 @@ returns-in-Some-clause-parts c = λ z h st. (word c z h st).parts
 pub returns-in-Some-clause-notices : goal.returns-in-Some-clause-notices
 returns-in-Some-clause-notices c = λ z h st. (word c z h st).notices
 
--- the forwards that are handed in are those of the source that is routed
+-- the forwards that are handed in are those of the source that is routed, or asked
 is_counted : (c : goal.After-step) (z : Start) (h : List Entry) → AreParts c.args.fabric.now c.args.words.now z h → IsCounted c.args.op.now c.forwards.result z h
 is_counted c z h st = λ s is.
-    let here = subst (λ (b : Board). s < b.limits.sources) st.fabric.tables.board (valid_route c.args.fabric.now.tables.board c.args.op.now s is c.requires.op) in
+    let here = subst (λ (b : Board). s < b.limits.sources) st.fabric.tables.board (valid_source c.args.fabric.now.tables.board c.args.op.now s is c.requires.op) in
     c.forwards.ensures ∙ counted c.args.fabric.now c.args.words.now z h c.args.op.now s st here is
 
 beside : (c : goal.After-step) (z : Start) (h : List Entry) → AreParts c.args.fabric.now c.args.words.now z h →
@@ -51,8 +53,13 @@ beside c z h st =
 pub returns-in-None-clause-outcome : goal.returns-in-None-clause-outcome
 returns-in-None-clause-outcome c = λ z h st. c.step.ensures.outcome z h st.fabric (is_counted c z h st)
 
+-- its entry by its parts
+entered : (c : goal.After-step) → c.step.result ≡ record { actor = c.args.actor; op = c.args.op.now; outcome = c.step.result.outcome }
+entered c = entry_of c.step.result c.args.actor c.args.op.now c.step.ensures.actor c.step.ensures.op
+
 pub returns-in-None-clause-parts : goal.returns-in-None-clause-parts
-returns-in-None-clause-parts c = λ z h st. (beside c z h st).parts
+returns-in-None-clause-parts c = λ z h st. subst (λ (x : Entry). AreParts c.step.new.self c.args.words.now z (x ∷ h)) (entered c) (beside c z h st).parts
 
 pub returns-in-None-clause-notices : goal.returns-in-None-clause-notices
-returns-in-None-clause-notices c = λ z h st. (beside c z h st).notices
+returns-in-None-clause-notices c = λ z h st.
+    subst (λ (x : Entry). all_outstanding z (x ∷ h) + consumed_in c.step.result.outcome ≡ all_outstanding z h + forwarded_in c.step.result.outcome) (entered c) (beside c z h st).notices
