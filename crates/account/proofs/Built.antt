@@ -25,6 +25,7 @@ valid-is_built b (op.Read e) h = search rules
 valid-is_built b (op.Peek addr) h = search rules
 valid-is_built b (op.Zero addr len) h = search rules
 valid-is_built b (op.Take i) h = search rules
+valid-is_built b (op.Quiet s) h = search rules
 valid-is_built b (op.Connect v) h = search rules
 valid-is_built b (op.Restore v t) h = search rules
 valid-is_built b (op.Save v) h = search rules

@@ -323,6 +323,10 @@ pub fn add_op<const CAP: usize>(text: &mut ArrayVec<u8, CAP>, op: &Op)
             text.push(b' ');
             add_arguments(text, args);
         }
+        Op::Quiet { s } => {
+            add(text, b"quiet ");
+            add_short_number(text, *s);
+        }
         Op::Read { e } => {
             add(text, b"read ");
             add_short_number(text, *e);

@@ -2,7 +2,7 @@
 
 ghost use Rattle.std.specs.Prelude.{◌≡◌, ◌+◌, ◌<◌, ◌≤◌, ◌++◌, length};
 ghost use Rattle.arrayvec.specs.ArrayVec.{array_vec_len};
-ghost use Rattle.account.specs.text.Outcomes.{pairs_text, forward_text, outcome_text, wrote_text, next_text, pass_text, routed_text, reply_text, phase_text, reason_text, presented_text, presentation_text};
+ghost use Rattle.account.specs.text.Outcomes.{pairs_text, forward_text, outcome_text, wrote_text, next_text, pass_text, routed_text, reply_text, phase_text, reason_text, presented_text, presentation_text, escalated_text, busy_text};
 ghost use Rattle.xv_model.specs.account.Outcomes.{IsWellFormed};
 
 use crate::numbers::{add, add_hex, add_number, add_pair, add_short_number, add_signed};
@@ -43,6 +43,12 @@ const LONGEST_PRESENTED: usize = 12;
 
 /// The room that a presentation wants, in bytes.
 const LONGEST_PRESENTATION: usize = 51;
+
+/// The room that what became of an escalation wants, in bytes.
+const LONGEST_ESCALATED: usize = 88;
+
+/// The room that what is still on its way wants, in bytes.
+const LONGEST_BUSY: usize = 36;
 
 /// A pair before and after.
 fn add_pairs<const CAP: usize>(text: &mut ArrayVec<u8, CAP>, old: u8, new: u8)
@@ -232,6 +238,35 @@ fn add_presentation<const CAP: usize>(
     }
 }
 
+/// What became of an escalation to an END.
+fn add_escalated<const CAP: usize>(text: &mut ArrayVec<u8, CAP>, e: u32, pass: &Option<EndRun>)
+    requires { array_vec_len text.old + LONGEST_ESCALATED ≤ CAP }
+    ensures items { text.new.items ≡ text.old.items ++ escalated_text e pass.now }
+    ensures len { array_vec_len text.new ≤ array_vec_len text.old + LONGEST_ESCALATED }
+{
+    add(text, b"escalate ");
+    add_short_number(text, e);
+    match pass {
+        Some(pass) => {
+            text.push(b' ');
+            add_pass(text, pass);
+        }
+        None => add(text, b" coalesced"),
+    }
+}
+
+/// How many notices and messages of a source are still on their way.
+fn add_busy<const CAP: usize>(text: &mut ArrayVec<u8, CAP>, notices: u64, messages: u32)
+    requires { array_vec_len text.old + LONGEST_BUSY ≤ CAP }
+    ensures items { text.new.items ≡ text.old.items ++ busy_text notices messages }
+    ensures len { array_vec_len text.new ≤ array_vec_len text.old + LONGEST_BUSY }
+{
+    add(text, b"busy ");
+    add_number(text, notices);
+    text.push(b' ');
+    add_short_number(text, messages);
+}
+
 /// Appends the text of an outcome; one of no operation that is built has none.
 pub fn add_outcome<const CAP: usize>(text: &mut ArrayVec<u8, CAP>, outcome: &Outcome)
     requires room { array_vec_len text.old + LONGEST_OUTCOME ≤ CAP }
@@ -276,6 +311,9 @@ pub fn add_outcome<const CAP: usize>(text: &mut ArrayVec<u8, CAP>, outcome: &Out
             presented,
             escalates,
         } => add_presentation(text, *v, *p, *presented, *escalates),
+        Outcome::Escalated { e, run } => add_escalated(text, *e, run),
+        Outcome::Quiet => add(text, b"quiet"),
+        Outcome::Busy { notices, messages } => add_busy(text, *notices, *messages),
         Outcome::Refused { why } => {
             add(text, b"refused ");
             add_reason(text, *why);

@@ -5,6 +5,7 @@ ghost use Rattle.xv_model.specs.board.Boards.{AreBelow, IsBoard};
 ghost use Rattle.account.specs.text.Operations.{is_built};
 ghost use Rattle.xv_model.specs.account.Outcomes.{IsWellFormed};
 
+mod escalations;
 mod processors;
 
 use crate::entry::add_entry;

@@ -88,6 +88,15 @@ presentation_text v priority presented escalates =
     codes "present " ++ decimal v ++ codes " " ++ decimal priority ++ codes " " ++ presented_text presented
     ++ (if escalates then codes " escalate" else [])
 
+-- what became of an escalation to END e: no pass where its state coalesced it
+abbrev pub escalated_text : ℕ → Option EndRun → List ℕ
+escalated_text e None = codes "escalate " ++ decimal e ++ codes " coalesced"
+escalated_text e (Some pass) = codes "escalate " ++ decimal e ++ codes " " ++ pass_text pass
+
+-- what of a source is still on its way: notices and messages
+abbrev pub busy_text : ℕ → ℕ → List ℕ
+busy_text notices messages = codes "busy " ++ decimal notices ++ codes " " ++ decimal messages
+
 -- an outcome; one of no operation that is built has no text
 abbrev pub outcome_text : Outcome → List ℕ
 outcome_text (out.Pq old new forward) = pairs_text old new ++ forward_text forward
@@ -108,6 +117,9 @@ outcome_text (out.Cell word) = codes "word " ++ hex word
 outcome_text out.BadRange = codes "bad-range"
 outcome_text out.NoMessage = codes "no-message"
 outcome_text (out.Present v priority presented escalates) = presentation_text v priority presented escalates
+outcome_text (out.Escalated e pass) = escalated_text e pass
+outcome_text out.Quiet = codes "quiet"
+outcome_text (out.Busy notices messages) = busy_text notices messages
 outcome_text (out.Refused reason) = codes "refused " ++ reason_text reason
 outcome_text (out.Value value) = codes "value " ++ hex value
 outcome_text out.Stored = codes "stored"
