@@ -9,6 +9,7 @@ use Rattle.xv_model.specs.account.Start.{start}
 use Rattle.xv_model.specs.account.Scripts.{Ends}
 use Rattle.xv_model.proofs.OneAccount.{one_account}
 use Rattle.xv_model.proofs.Accounts.{has_account}
+use Rattle.xv_model.proofs.FlightRanges.{fit_start}
 use Rattle.board_script.specs.declared.faults.ScriptFault.{ScriptFault}
 use Rattle.board_script.specs.declared.lines.Said.{Said}
 use Rattle.board_script.specs.declared.lines.Said.TheVariants as say
@@ -106,7 +107,7 @@ are_work p work (l ∷ ls) t a = line_is p.fault p l work (λ q it. script_from 
 has_on : (b : Option Board) (work : List WorkLine) → AreWorkOn b work → (h : List Entry) × IsAccountOn b work h
 has_on None work a = ([], refl)
 has_on (Some b) work a =
-    let each : All (λ w. Ends (start b) (line_for w)) work = λ k d l. ends (start b) _ (a k d l) in
+    let each : All (λ w. Ends (start b) (line_for w)) work = λ k d l. ends (start b) _ (fit_start b) (a k d l) in
     let (h, follows, legal) = has_account (start b) (map line_for work) (All-map (Ends (start b)) line_for work each) in
     (h, (follows, legal))
 

@@ -23,16 +23,16 @@ use Rattle.board_script.specs.declared.stage.Stage.{Stage}
 use Rattle.board_script.specs.declared.stage.Stage.TheVariants.{Header, Work, Ended}
 use Rattle.board_script.specs.declared.lines.Said.{Said}
 use Rattle.board_script.specs.declared.lines.Said.TheVariants as said
-use Rattle.board_script.specs.Work.{once, then_route, settle}
+use Rattle.board_script.specs.Work.{once, then_route, settle, sync, drain}
 use Rattle.board_script.specs.Words.{skip, says_nothing, word_of, rest_of, is_word, misread_at, value_at, done_at, name_at, then_read, at_end}
 use Rattle.board_script.specs.Numbers.{number_of, number_at, in_bounds, bounded_at, word32_at, end_number_at, pair_of, pair_at}
 use Rattle.board_script.specs.Flags.{flags_at}
 use Rattle.board_script.specs.Work.{HasValidSteps}
-use Rattle.board_script.specs.Sources.{source_at, access_line_of, set_line_of, route_line_of, then_route_of, level_source_of, level_line_of, assert_line_of, init_by, init_line_of}
+use Rattle.board_script.specs.Sources.{source_at, access_line_of, set_line_of, route_line_of, quiet_line_of, sync_line_of, then_route_of, level_source_of, level_line_of, assert_line_of, init_by, init_line_of}
 use Rattle.board_script.specs.Pages.{page_bytes, place_of, source_page_line_of, end_page_line_of}
 use Rattle.board_script.specs.Memory.{read_line_of, peek_line_of, zero_line_of}
 use Rattle.board_script.specs.Configuring.{config_of, if_valid, endset_of, args_of, call_of, hcall_of}
-use Rattle.board_script.specs.Processors.{processor_at, thread_at, settle_line_of, take_line_of, connect_line_of, restore_line_of, save_line_of, push_line_of, tima_load_of, pull_line_of, ack_line_of, regs_line_of, tima_byte_of, cppr_line_of, inject_line_of}
+use Rattle.board_script.specs.Processors.{processor_at, thread_at, settle_line_of, drain_line_of, take_line_of, connect_line_of, restore_line_of, save_line_of, push_line_of, tima_load_of, pull_line_of, ack_line_of, regs_line_of, tima_byte_of, cppr_line_of, inject_line_of}
 use Rattle.board_script.specs.Working.{move_steps_by, ring_steps_by, rare_steps_by, steps_by, steps_of, work_of}
 use Rattle.board_script.specs.Header.{number_line_of, pages_line_of, range_of, range_line_of, has_room, takes_level, takes_unclaimed, last_line_of, header_of}
 use Rattle.board_script.specs.Lines.{check_of, words_of, said_by, checked_of, said_of, IsNumber, IsPages, IsRange, IsLevelAt, IsUnclaimedAt, IsLastSaid, IsHeaderSaid, IsWorkSaid, IsSaidAt}
@@ -122,6 +122,16 @@ route_fits : (b : Board) (rest : List ℕ) → IfOk (route_line_of b rest) (HasV
 route_fits b rest =
     read_fits (HasValidSteps b) (Passes 0 b.limits.sources) (source_at b rest) _ (bounded_fits 0 b.limits.sources rest) (λ s q.
     end_fits (HasValidSteps b) (rest_of rest) (once (op.Route s)) q.below)
+
+quiet_fits : (b : Board) (rest : List ℕ) → IfOk (quiet_line_of b rest) (HasValidSteps b)
+quiet_fits b rest =
+    read_fits (HasValidSteps b) (Passes 0 b.limits.sources) (source_at b rest) _ (bounded_fits 0 b.limits.sources rest) (λ s q.
+    end_fits (HasValidSteps b) (rest_of rest) (once (op.Quiet s)) q.below)
+
+sync_fits : (b : Board) (rest : List ℕ) → IfOk (sync_line_of b rest) (HasValidSteps b)
+sync_fits b rest =
+    read_fits (HasValidSteps b) (Passes 0 b.limits.sources) (source_at b rest) _ (bounded_fits 0 b.limits.sources rest) (λ s q.
+    end_fits (HasValidSteps b) (rest_of rest) (sync s) (refl, q.below))
 
 then_route_fits : (b : Board) (o : PqOp) (rest : List ℕ) → ((level : Bool) → has_op level o ≡ true) → IfOk (then_route_of b o rest) (HasValidSteps b)
 then_route_fits b o rest v =
@@ -309,7 +319,10 @@ ring_steps_fits b at name rest =
     (choose P (is_word (codes "cppr") name) (cppr_line_of b rest) _ (λ e. tima_byte_fits b TM_OS_CPPR rest (cppr_built b))
     (choose P (is_word (codes "take") name) (take_line_of rest) _ (λ e. take_fits b rest)
     (choose P (is_word (codes "inject") name) (inject_line_of b rest) _ (λ e. tima_byte_fits b TM_SET_PENDING rest (inject_built b))
-    (choose P (is_word (codes "regs") name) (regs_line_of b rest) (rare_steps_by b at name rest) (λ e. tima_load_fits b TM_OS_PAGE TM_QW1_OS 8 rest refl) (rare_steps_fits b at name rest))))))
+    (choose P (is_word (codes "regs") name) (regs_line_of b rest) _ (λ e. tima_load_fits b TM_OS_PAGE TM_QW1_OS 8 rest refl)
+    (choose P (is_word (codes "quiet") name) (quiet_line_of b rest) _ (λ e. quiet_fits b rest)
+    (choose P (is_word (codes "sync") name) (sync_line_of b rest) _ (λ e. sync_fits b rest)
+    (choose P (is_word (codes "drain") name) (drain_line_of b rest) (rare_steps_by b at name rest) (λ e. end_fits P rest (drain b.limits.sources) (refl, omega arith)) (rare_steps_fits b at name rest)))))))))
 
 steps_fits : (b : Board) (at : Misread) (name rest : List ℕ) → IfOk (steps_by b at name rest) (HasValidSteps b)
 steps_fits b at name rest =

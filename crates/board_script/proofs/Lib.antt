@@ -1,7 +1,9 @@
 pub mod Accounts
 pub mod Eights
 pub mod Fitting
+pub mod Passing
 pub mod WorkLines
 pub mod LongLines
 pub mod Reading
 pub mod Staying
+pub mod Resting

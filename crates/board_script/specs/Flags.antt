@@ -5,20 +5,23 @@ use Rattle.xv_model.specs.declared.operations.EndFlags.{EndFlags}
 use Rattle.board_script.specs.declared.faults.Misread.{Misread}
 use Rattle.board_script.specs.Words.{word_of, is_empty, is_word, value_at}
 
--- the bit of a letter: v, q, n or b
+-- the bit of a letter: v, q, n, b, e, u or s
 abbrev pub bit_of : ℕ → Option ℕ
 bit_of b =
     if b == 118 then Some 1
     else (if b == 113 then Some 2
     else (if b == 110 then Some 4
-    else (if b == 98 then Some 8 else None)))
+    else (if b == 98 then Some 8
+    else (if b == 101 then Some 16
+    else (if b == 117 then Some 32
+    else (if b == 115 then Some 64 else None))))))
 
 -- flags with the bit of one more letter, which is above each bit before it
 abbrev pub flags_with : ℕ → Option ℕ → Option ℕ
 flags_with n (Some bit) = if nat_lt n bit then Some (n + bit) else None
 flags_with n None = None
 
--- flags with those of more letters, each at most once and in the order v, q, n, b
+-- flags with those of more letters, each at most once and in the order v, q, n, b, e, u, s
 abbrev pub flags_from : Option ℕ → List ℕ → Option ℕ
 flags_from None word = None
 flags_from (Some n) [] = Some n

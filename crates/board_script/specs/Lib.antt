@@ -16,3 +16,4 @@ pub mod Lines
 pub mod Stage
 pub mod Parser
 pub mod Script
+pub mod Resting

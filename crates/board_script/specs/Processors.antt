@@ -7,7 +7,7 @@ use Rattle.xv_model.specs.declared.operations.Op.TheVariants as op
 use Rattle.xv_model.specs.declared.tima.TheConstants.{TM_HV_PAGE, TM_OS_PAGE, TM_QW1_OS, TM_OS_CPPR, TM_OS_CAM, TM_ACKNOWLEDGE, TM_SET_PENDING, TM_PULL_CONTEXT, CAM_VALID, CAM_FIRST}
 use Rattle.board_script.specs.declared.faults.Misread.{Misread}
 use Rattle.board_script.specs.declared.work.Work.{Work}
-use Rattle.board_script.specs.Work.{once, settle}
+use Rattle.board_script.specs.Work.{once, settle, drain}
 use Rattle.board_script.specs.Words.{then_at, at_end}
 use Rattle.board_script.specs.Numbers.{bounded_at, word32_at}
 
@@ -22,6 +22,10 @@ thread_at b rest = bounded_at 0 b.limits.threads rest
 -- takes of the oldest message until there is none
 abbrev pub settle_line_of : List ℕ → Result Work Misread
 settle_line_of rest = at_end rest settle
+
+-- all sources of a board are drained
+abbrev pub drain_line_of : Board → List ℕ → Result Work Misread
+drain_line_of b rest = at_end rest (drain b.limits.sources)
 
 -- the take of one of the messages in flight
 abbrev pub take_line_of : List ℕ → Result Work Misread

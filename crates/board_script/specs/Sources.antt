@@ -8,7 +8,7 @@ use Rattle.xv_model.specs.declared.operations.Op.TheVariants as op
 use Rattle.xv_model.specs.board.Boards.{is_level}
 use Rattle.board_script.specs.declared.faults.Misread.{Misread}
 use Rattle.board_script.specs.declared.work.Work.{Work}
-use Rattle.board_script.specs.Work.{once, then_route}
+use Rattle.board_script.specs.Work.{once, then_route, sync}
 use Rattle.board_script.specs.Words.{done_at, then_read, then_at, at_end}
 use Rattle.board_script.specs.Numbers.{bounded_at, pair_at}
 
@@ -29,6 +29,14 @@ set_line_of b rest =
 -- the route of a notice of a source
 abbrev pub route_line_of : Board → List ℕ → Result Work Misread
 route_line_of b rest = then_at (source_at b) rest (λ s rest. at_end rest (once (op.Route s)))
+
+-- whether a source is quiet is asked
+abbrev pub quiet_line_of : Board → List ℕ → Result Work Misread
+quiet_line_of b rest = then_at (source_at b) rest (λ s rest. at_end rest (once (op.Quiet s)))
+
+-- a source is brought to rest
+abbrev pub sync_line_of : Board → List ℕ → Result Work Misread
+sync_line_of b rest = then_at (source_at b) rest (λ s rest. at_end rest (sync s))
 
 -- an operation on the word of a source, and the route of what it forwards
 abbrev pub then_route_of : Board → PqOp → List ℕ → Result Work Misread

@@ -9,11 +9,11 @@ use Rattle.board_script.specs.declared.lines.Said.TheVariants as said
 use Rattle.board_script.specs.declared.work.Work.{Work}
 use Rattle.board_script.specs.Words.{word_of, rest_of, is_word, misread_at, then_read, then_at, at_end}
 use Rattle.board_script.specs.Numbers.{bounded_at}
-use Rattle.board_script.specs.Sources.{access_line_of, set_line_of, route_line_of, then_route_of, level_line_of, assert_line_of, init_line_of}
+use Rattle.board_script.specs.Sources.{access_line_of, set_line_of, route_line_of, quiet_line_of, sync_line_of, then_route_of, level_line_of, assert_line_of, init_line_of}
 use Rattle.board_script.specs.Pages.{source_page_line_of, end_page_line_of}
 use Rattle.board_script.specs.Memory.{read_line_of, peek_line_of, zero_line_of}
 use Rattle.board_script.specs.Configuring.{endset_of, hcall_of}
-use Rattle.board_script.specs.Processors.{settle_line_of, take_line_of, connect_line_of, restore_line_of, save_line_of, push_line_of, pull_line_of, ack_line_of, regs_line_of, cppr_line_of, inject_line_of}
+use Rattle.board_script.specs.Processors.{settle_line_of, drain_line_of, take_line_of, connect_line_of, restore_line_of, save_line_of, push_line_of, pull_line_of, ack_line_of, regs_line_of, cppr_line_of, inject_line_of}
 
 -- the work of a line that moves the context of a processor, by its name; an unknown name is refused there
 abbrev pub move_steps_by : Board → Misread → List ℕ → List ℕ → Result Work Misread
@@ -46,7 +46,10 @@ ring_steps_by b at name rest =
     else (if is_word (codes "cppr") name then cppr_line_of b rest
     else (if is_word (codes "take") name then take_line_of rest
     else (if is_word (codes "inject") name then inject_line_of b rest
-    else (if is_word (codes "regs") name then regs_line_of b rest else rare_steps_by b at name rest)))))
+    else (if is_word (codes "regs") name then regs_line_of b rest
+    else (if is_word (codes "quiet") name then quiet_line_of b rest
+    else (if is_word (codes "sync") name then sync_line_of b rest
+    else (if is_word (codes "drain") name then drain_line_of b rest else rare_steps_by b at name rest))))))))
 
 -- the work of a line, by the name of its operation and what stands after it
 abbrev pub steps_by : Board → Misread → List ℕ → List ℕ → Result Work Misread

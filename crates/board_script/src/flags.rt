@@ -8,16 +8,19 @@ use crate::words::{Words, same};
 use bitflags::Flags;
 use xv_model::operations::EndFlags;
 
-/// The bit of a letter: v, q, n or b.
+/// The bit of a letter: v, q, n, b, e, u or s.
 fn bit(letter: u8) -> Option<u8>
     ensures value { result ≡ bit_of letter }
-    ensures few { IfSome result (λ n. n ≤ 8) }
+    ensures few { IfSome result (λ n. n ≤ 64) }
 {
     match letter {
         b'v' => Some(1),
         b'q' => Some(2),
         b'n' => Some(4),
         b'b' => Some(8),
+        b'e' => Some(16),
+        b'u' => Some(32),
+        b's' => Some(64),
         _ => None,
     }
 }
@@ -29,7 +32,7 @@ pub fn with_bits(bits: u8) -> EndFlags
     EndFlags::from_bits_retain(bits)
 }
 
-/// The flags that a word is: `-` is none; else letters, each at most once and in the order v, q, n, b.
+/// The flags that a word is: `-` is none; else letters, each at most once and in the order v, q, n, b, e, u, s.
 fn flags(word: &[u8]) -> Option<u8>
     ensures { result ≡ flags_of word.now }
 {

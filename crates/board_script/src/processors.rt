@@ -1,7 +1,7 @@
 //! Work lines on processors, messages and rings, by what stands after the name of the operation.
 
 ghost use Rattle.std.specs.Prelude.{◌≡◌};
-ghost use Rattle.board_script.specs.Processors.{settle_line_of, take_line_of, connect_line_of, restore_line_of, save_line_of, push_line_of, tima_load_of, pull_line_of, ack_line_of, regs_line_of, tima_byte_of, cppr_line_of, inject_line_of};
+ghost use Rattle.board_script.specs.Processors.{settle_line_of, drain_line_of, take_line_of, connect_line_of, restore_line_of, save_line_of, push_line_of, tima_load_of, pull_line_of, ack_line_of, regs_line_of, tima_byte_of, cppr_line_of, inject_line_of};
 
 use crate::faults::Misread;
 use crate::words::Words;
@@ -19,6 +19,14 @@ pub fn settle_line(words: &mut Words) -> Result<Work, Misread>
 {
     words.done()?;
     Ok(Work::SETTLE)
+}
+
+/// All sources of a board are drained.
+pub fn drain_line(board: &Board, words: &mut Words) -> Result<Work, Misread>
+    ensures { result ≡ drain_line_of board.now words.old }
+{
+    words.done()?;
+    Ok(Work::drain(board.limits.sources))
 }
 
 /// The take of one of the messages in flight.

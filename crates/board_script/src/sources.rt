@@ -1,7 +1,7 @@
 //! Work lines on a source, by what stands after the name of the operation.
 
 ghost use Rattle.std.specs.Prelude.{◌≡◌};
-ghost use Rattle.board_script.specs.Sources.{access_line_of, set_line_of, route_line_of, then_route_of, level_source_of, level_line_of, assert_line_of, init_line_of};
+ghost use Rattle.board_script.specs.Sources.{access_line_of, set_line_of, route_line_of, quiet_line_of, sync_line_of, then_route_of, level_source_of, level_line_of, assert_line_of, init_line_of};
 
 use crate::faults::Misread;
 use crate::words::Words;
@@ -38,6 +38,24 @@ pub fn route_line(board: &Board, words: &mut Words) -> Result<Work, Misread>
     let s = words.bounded(0, board.limits.sources)?;
     words.done()?;
     Ok(Work::once(Op::Route { s }))
+}
+
+/// Whether a source is quiet is asked.
+pub fn quiet_line(board: &Board, words: &mut Words) -> Result<Work, Misread>
+    ensures { result ≡ quiet_line_of board.now words.old }
+{
+    let s = words.bounded(0, board.limits.sources)?;
+    words.done()?;
+    Ok(Work::once(Op::Quiet { s }))
+}
+
+/// A source is brought to rest.
+pub fn sync_line(board: &Board, words: &mut Words) -> Result<Work, Misread>
+    ensures { result ≡ sync_line_of board.now words.old }
+{
+    let s = words.bounded(0, board.limits.sources)?;
+    words.done()?;
+    Ok(Work::sync(s))
 }
 
 /// An operation on the word of a source, and the route of what it forwards.

@@ -9,25 +9,34 @@ mod scripts;
 mod sources;
 mod spellings;
 
+ghost use Rattle.std.specs.Prelude.{◌≡◌, true};
+ghost use Rattle.board_script.specs.Work.{AsksBelow};
+
 use crate::faults::ScriptFault;
 use crate::lines::{Line, Said, read};
 use crate::parser::Parser;
 use crate::stage::Stage;
-use crate::work::Work;
+use crate::work::{Then, Work};
 use std::process::Abort;
 use xv_model::board::Board;
 use xv_model::known::Known;
+use xv_model::operations::Op;
+use xv_model::outcomes::Outcome;
 
-/// Knows of one source, of no account.
-pub struct Blind;
+/// Knows of the sources of the largest board, of no account: one notice of this source is outstanding, and no
+/// other one.
+#[derive(Clone, Copy)]
+pub struct Blind {
+    pub busy: u32,
+}
 
 impl Known for Blind {
     ghost knows = { λ it z h. ⊥ };
 
-    ghost sources = { λ it. 1 };
+    ghost sources = { λ it. 8192 };
 
-    fn out(&self, _s: u32) -> u64 {
-        0
+    fn out(&self, s: u32) -> u64 {
+        if s == self.busy { 1 } else { 0 }
     }
 
     fn initialised(&self, _s: u32) -> bool {
@@ -37,6 +46,31 @@ impl Known for Blind {
     fn pq(&self, _s: u32) -> u8 {
         0
     }
+}
+
+/// Whether a line asks for sources of the largest board alone.
+fn asks_known(then: &Then) -> bool
+    ensures { result ≡ true → AsksBelow 8192 then.now }
+{
+    match then {
+        Then::Sync { s } => *s < 8192,
+        Then::Drain { sources, .. } => *sources <= 8192,
+        _ => true,
+    }
+}
+
+/// The next operation of a line, where a notice of one source is outstanding; none of a line that asks for
+/// sources that the largest board hasn't.
+pub fn next_while(work: &mut Work, last: Option<&Outcome>, busy: u32) -> Option<Op> {
+    if !asks_known(&work.then) {
+        return None;
+    }
+    work.next(last, &Blind { busy })
+}
+
+/// The next operation of a line, where no notice of a source of the largest board is outstanding.
+pub fn next_of(work: &mut Work, last: Option<&Outcome>) -> Option<Op> {
+    next_while(work, last, 8192)
 }
 
 /// Feeds lines until one is refused, and says which.

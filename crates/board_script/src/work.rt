@@ -1,13 +1,14 @@
 //! Work lines, and the operations that they make.
 
-ghost use Rattle.std.specs.Prelude.{◌≡◌, ◌∷◌, ◌++◌, List, option_copied, IfSome, IsTrue};
+ghost use Rattle.std.specs.Prelude.{◌≡◌, ◌<◌, ◌≤◌, ◌-◌, ◌∷◌, ◌++◌, List, option_copied, IfSome, Some, IsTrue};
 ghost use Rattle.xv_model.specs.declared.board.Board.{Board};
 ghost use Rattle.xv_model.specs.declared.entries.Entry.{Entry};
 ghost use Rattle.xv_model.specs.account.Start.{Start};
+ghost use Rattle.xv_model.specs.source.Notices.{outstanding};
 ghost use Rattle.xv_model.specs.board.Validity.{valid};
 ghost use Rattle.board_script.specs.declared.work.Work.{Work as AWork};
 ghost use Rattle.xv_model.specs.laws.Triggers.{is_forwarded};
-ghost use Rattle.board_script.specs.Work.{has_found};
+ghost use Rattle.board_script.specs.Work.{has_found, settling, resting, first_from, draining, HasPassed};
 
 use xv_model::known::Known;
 use xv_model::operations::{Op, PqOp};
@@ -22,10 +23,16 @@ pub enum Then {
     Route { s: u32 },
     /// The oldest message is taken, where the operation took one.
     Take,
+    /// Messages are taken until there is none, and then also after each route of an outstanding notice of this
+    /// source; then it is asked whether the source is quiet.
+    Sync { s: u32 },
+    /// Messages are taken until there is none, and then also after each route of an outstanding notice of the
+    /// sources below `sources`, rising. Those below `from` have no outstanding notice.
+    Drain { from: u32, sources: u32 },
 }
 
 /// A work line on its way: its first operation, and how it goes on. Where it stands is told by the outcome of
-/// its last operation.
+/// its last operation, and, where it drains, by its place: the first source that it still looks at.
 #[derive(Clone, Copy)]
 pub struct Work {
     pub first: Op,
@@ -49,8 +56,71 @@ fn found(outcome: &Outcome) -> bool
     matches!(outcome, Outcome::Present { .. } | Outcome::Escalated { .. })
 }
 
+/// The operation of a line that settles, after one that answered this: takes until there is no message, and
+/// then `settled`.
+fn settling(outcome: &Outcome, settled: Op) -> Option<Op>
+    ensures { result ≡ settling (Some settled) outcome.now }
+{
+    match outcome {
+        Outcome::NoMessage => Some(settled),
+        Outcome::Quiet | Outcome::Busy { .. } => None,
+        _ => Some(Op::Take { i: 0 }),
+    }
+}
+
+/// What a line that brings a source to rest does once it has settled, by how many of the source's notices are
+/// outstanding.
+fn resting(s: u32, notices: u64) -> Op
+    ensures { result ≡ resting s notices }
+{
+    if notices == 0 {
+        Op::Quiet { s }
+    } else {
+        Op::Route { s }
+    }
+}
+
+/// The first source from this one on, of so many, with a notice that is outstanding.
+fn first_outstanding<N: Known>(known: &N, from: u32, sources: u32) -> Option<u32>
+    requires { sources ≤ N.sources known.now }
+    ensures value { (z : Start) (h : List Entry) → N.knows known.now z h →
+        result ≡ first_from (outstanding z h) from (sources - from) }
+    ensures below { IfSome result (λ s. s < sources) }
+{
+    let mut s = from;
+    while s < sources {
+        if known.out(s) != 0 {
+            return Some(s);
+        }
+        s += 1;
+    }
+    None
+}
+
+/// The operation of a line that drains so many sources, after one that answered this. Once it has settled, it
+/// moves on to the first source with a notice that is outstanding.
+fn drained<N: Known>(outcome: &Outcome, from: &mut u32, sources: u32, known: &N) -> Option<Op>
+    requires { sources ≤ N.sources known.now }
+    ensures value { (z : Start) (h : List Entry) → N.knows known.now z h →
+        result ≡ settling (draining (first_from (outstanding z h) from.old (sources - from.old))) outcome.now }
+    ensures valid { IfSome result (λ o. (b : Board) →
+        sources ≤ b.limits.sources → IsTrue (valid b o)) }
+    ensures passed { (z : Start) (h : List Entry) → N.knows known.now z h →
+        HasPassed (outstanding z h) from.old from.new }
+{
+    match outcome {
+        Outcome::NoMessage => {
+            let s = first_outstanding(known, *from, sources)?;
+            *from = s;
+            Some(Op::Route { s })
+        }
+        Outcome::Quiet | Outcome::Busy { .. } => None,
+        _ => Some(Op::Take { i: 0 }),
+    }
+}
+
 impl Work {
-    ghost use Rattle.board_script.specs.Work.{once, then_route, op_after, next_op, IsAt, IsLast, Falls, HasValidSteps};
+    ghost use Rattle.board_script.specs.Work.{once, then_route, sync, drain, op_from_place, next_op, place_of, at_place, IsAt, IsLast, Falls, HasValidSteps, AsksBelow};
 
     /// Takes of the oldest message, until there is none.
     pub(crate) const SETTLE: Work = Work {
@@ -78,13 +148,52 @@ impl Work {
         }
     }
 
-    /// The operation that the line makes after one that answered this.
-    fn following(&self, outcome: &Outcome) -> Option<Op>
-        ensures { result ≡ op_after self.now.then outcome.now }
+    /// A line that brings a source to rest.
+    pub(crate) fn sync(s: u32) -> Work
+        ensures { result ≡ sync s }
     {
-        match self.then {
-            Then::Route { s } if forwarded(outcome) => Some(Op::Route { s }),
+        Work {
+            first: Op::Take { i: 0 },
+            then: Then::Sync { s },
+        }
+    }
+
+    /// A line that drains so many sources.
+    pub(crate) fn drain(sources: u32) -> Work
+        ensures { result ≡ drain sources }
+    {
+        Work {
+            first: Op::Take { i: 0 },
+            then: Then::Drain { from: 0, sources },
+        }
+    }
+
+    /// A line that drains begins with the first source.
+    fn begin(&mut self)
+        ensures { self.new ≡ at_place 0 self.old }
+    {
+        if let Then::Drain { from, .. } = &mut self.then {
+            *from = 0;
+        }
+    }
+
+    /// The operation that the line makes after one that answered this. A line that drains moves on past sources
+    /// that have no outstanding notice; nothing else of a line changes.
+    fn following<N: Known>(&mut self, outcome: &Outcome, known: &N) -> Option<Op>
+        requires sources { AsksBelow (N.sources known.now) self.old.then }
+        ensures value { (z : Start) (h : List Entry) → N.knows known.now z h →
+            result ≡ op_from_place self.old.then z h outcome.now }
+        ensures valid { IfSome result (λ o. (b : Board) →
+            HasValidSteps b self.old → IsTrue (valid b o)) }
+        ensures place { self.new ≡ at_place (place_of self.new.then) self.old }
+        ensures passed { (z : Start) (h : List Entry) → N.knows known.now z h →
+            HasPassed (outstanding z h) (place_of self.old.then) (place_of self.new.then) }
+    {
+        match &mut self.then {
+            Then::Route { s } if forwarded(outcome) => Some(Op::Route { s: *s }),
             Then::Take if found(outcome) => Some(Op::Take { i: 0 }),
+            Then::Sync { s } => settling(outcome, resting(*s, known.out(*s))),
+            Then::Drain { from, sources } => drained(outcome, from, *sources, known),
             _ => None,
         }
     }
@@ -92,25 +201,29 @@ impl Work {
     /// The operation that the line makes next; none where it is done. `last` is what its last operation
     /// answered, none before the first one, and `known` what is known of the account with its entries.
     pub fn next<N: Known>(&mut self, last: Option<&Outcome>, known: &N) -> Option<Op>
+        requires sources { AsksBelow (N.sources known.now) self.old.then }
         ensures value { (w : AWork) (z : Start) (before part : List Entry) →
             IsAt self.old w z before part → N.knows known.now z (part ++ before) →
             IsLast part (option_copied last.entry) → result ≡ next_op w z before part }
         ensures after { IfSome result (λ o.
             (w : AWork) (z : Start) (before part : List Entry) (x : Entry) →
-            IsAt self.old w z before part → x.op ≡ o → IsAt self.new w z before (x ∷ part)) }
+            IsAt self.old w z before part → N.knows known.now z (part ++ before) →
+            IsLast part (option_copied last.entry) → x.op ≡ o → IsAt self.new w z before (x ∷ part)) }
         ensures falls { IfSome result (λ o.
             (w : AWork) (z : Start) (before part : List Entry) →
             IsAt self.old w z before part → N.knows known.now z (part ++ before) →
-            IsLast part (option_copied last.entry) →
+            IsLast part (option_copied last.entry) → (b : Board) → HasValidSteps b self.old →
             Falls self.old self.new (option_copied last.entry) z (part ++ before) o) }
         ensures valid { IfSome result (λ o. (b : Board) →
             HasValidSteps b self.old → IsTrue (valid b o)) }
         ensures stays { (b : Board) → HasValidSteps b self.old → HasValidSteps b self.new }
     {
-        let _ = known;
         match last {
-            None => Some(self.first),
-            Some(outcome) => self.following(outcome),
+            None => {
+                self.begin();
+                Some(self.first)
+            }
+            Some(outcome) => self.following(outcome, known),
         }
     }
 }

@@ -11,11 +11,12 @@ use crate::memory::{peek_line, read_line, zero_line};
 use crate::numbers::bounded;
 use crate::pages::{end_page_line, source_page_line};
 use crate::processors::{
-    ack_line, connect_line, cppr_line, inject_line, pull_line, push_line, regs_line, restore_line,
-    save_line, settle_line, take_line,
+    ack_line, connect_line, cppr_line, drain_line, inject_line, pull_line, push_line, regs_line,
+    restore_line, save_line, settle_line, take_line,
 };
 use crate::sources::{
-    access_line, assert_line, init_line, level_line, route_line, set_line, then_route,
+    access_line, assert_line, init_line, level_line, quiet_line, route_line, set_line, sync_line,
+    then_route,
 };
 use crate::words::{Words, same};
 use crate::work::Work;
@@ -112,6 +113,15 @@ fn named_on_ring(
     }
     if same(name, b"regs") {
         return regs_line(board, words);
+    }
+    if same(name, b"quiet") {
+        return quiet_line(board, words);
+    }
+    if same(name, b"sync") {
+        return sync_line(board, words);
+    }
+    if same(name, b"drain") {
+        return drain_line(board, words);
     }
     named_rarely(board, here, name, words)
 }

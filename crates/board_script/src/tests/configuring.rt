@@ -1,6 +1,6 @@
 //! Lines that configure an END or a source.
 
-use crate::tests::{Blind, assert_read, work_of};
+use crate::tests::{assert_places, assert_read, next_of, work_of};
 use bitflags::Flags;
 use xv_model::operations::Op;
 use xv_model::outcomes::Outcome;
@@ -22,7 +22,7 @@ fn reads_and_refuses_hypercalls(rt: HostRuntime) {
     ];
     assert_read(&rt, &good, true);
     assert_read(&rt, &bad, false);
-    match work_of(&rt, b"0 hcall 0x3ac 5 6 7 8 9").next(None, &Blind) {
+    match next_of(&mut work_of(&rt, b"0 hcall 0x3ac 5 6 7 8 9"), None) {
         Some(Op::Hcall { number, args }) => {
             assert_eq!(rt; number, 0x3ac);
             assert_eq!(rt; args, [5, 6, 7, 8, 9]);
@@ -34,7 +34,7 @@ fn reads_and_refuses_hypercalls(rt: HostRuntime) {
 #[test]
 fn reads_a_configuration(rt: HostRuntime) {
     let mut work = work_of(&rt, b"0 endset 511 vqb 63 7 0x3ff0000 16 0 0");
-    match work.next(None, &Blind) {
+    match next_of(&mut work, None) {
         Some(Op::EndSet { e, config }) => {
             assert_eq!(rt; e, 511);
             assert_eq!(rt; config.flags.bits(), 11);
@@ -46,7 +46,7 @@ fn reads_a_configuration(rt: HostRuntime) {
         }
         _ => assert!(rt; false),
     }
-    assert!(rt; work.next(Some(&Outcome::Fine), &Blind).is_none());
+    assert!(rt; next_of(&mut work, Some(&Outcome::Fine)).is_none());
 }
 
 #[test]
@@ -97,7 +97,10 @@ fn refuses_queues_and_flags(rt: HostRuntime) {
         b"0 endset 0 vv 0 0 0 0 0 0",
         b"0 endset 0 ve 0 0 0 0 0 0",
         b"0 endset 0 u 0 0 0 0 0 0",
-        b"0 endset 0 vs 0 0 0 0 0 0",
+        b"0 endset 0 vse 0 0 0 0 7 0",
+        b"0 endset 0 vee 0 0 0 0 7 0",
+        b"0 endset 0 veb 0 0 0 0 7 0",
+        b"0 endset 0 vx 0 0 0 0 0 0",
         b"0 endset 0 V 0 0 0 0 0 0",
         b"0 endset 0 -v 0 0 0 0 0 0",
         b"0 endset 0 -- 0 0 0 0 0 0",
@@ -106,4 +109,26 @@ fn refuses_queues_and_flags(rt: HostRuntime) {
     ];
     assert_read(&rt, &queues, false);
     assert_read(&rt, &flags, false);
+}
+
+#[test]
+fn reads_and_refuses_escalations(rt: HostRuntime) {
+    let good = [
+        b"0 endset 0 vqnbeus 0 7 0x1000 12 7 0x7fffffff".as_slice(),
+        b"0 endset 510 ve 63 0 0 0 511 0",
+        b"0 endset 1 veu 0 0 0 0 15 1",
+        b"0 endset 7 vqnbus 0 0 0x1000 12 0 0",
+        b"0 endset 0 vs 0 0 0 0 0 0",
+    ];
+    let places = [
+        (b"0 endset 0 ve 0 0 0 0 6 0".as_slice(), 3),
+        (b"0  endset 7 ve 0 0 0 0 15 0", 4),
+        (b"0 endset 0 ve 0 0 0 0 7 0x80000000", 3),
+        (b"0 endset 0 vus 0 0 0 0 7 0", 3),
+        (b"0 endset 0 e 0 0 0 0 7 0", 3),
+        (b"0 endset 0 ve 0 0 0 0 512 0", 23),
+        (b"0 endset 0 vue 0 0 0 0 7 0", 12),
+    ];
+    assert_read(&rt, &good, true);
+    assert_places(&rt, &places);
 }

@@ -1,6 +1,6 @@
 //! Lines on queues and on memory.
 
-use crate::tests::{Blind, assert_places, assert_read, work_of};
+use crate::tests::{assert_places, assert_read, next_of, work_of};
 use xv_model::operations::Op;
 use xv_model::outcomes::Outcome;
 
@@ -44,23 +44,23 @@ fn refuses_lines_on_queues_and_memory(rt: HostRuntime) {
 #[test]
 fn makes_reads_and_looks(rt: HostRuntime) {
     let mut read = work_of(&rt, b"0 read 511");
-    assert!(rt; matches!(read.next(None, &Blind), Some(Op::Read { e: 511 })));
+    assert!(rt; matches!(next_of(&mut read, None), Some(Op::Read { e: 511 })));
     let item = Outcome::Item { payload: 0x10 };
-    assert!(rt; read.next(Some(&item), &Blind).is_none());
+    assert!(rt; next_of(&mut read, Some(&item)).is_none());
     let mut peek = work_of(&rt, b"0 peek 0x1ffc");
-    assert!(rt; matches!(peek.next(None, &Blind), Some(Op::Peek { addr: 0x1ffc })));
-    assert!(rt; peek.next(Some(&Outcome::BadRange), &Blind).is_none());
+    assert!(rt; matches!(next_of(&mut peek, None), Some(Op::Peek { addr: 0x1ffc })));
+    assert!(rt; next_of(&mut peek, Some(&Outcome::BadRange)).is_none());
 }
 
 #[test]
 fn makes_zeros(rt: HostRuntime) {
     let mut zero = work_of(&rt, b"0 zero 0x1000 0x20");
-    match zero.next(None, &Blind) {
+    match next_of(&mut zero, None) {
         Some(Op::Zero { addr, len }) => {
             assert_eq!(rt; addr, 0x1000);
             assert_eq!(rt; len, 0x20);
         }
         _ => assert!(rt; false),
     }
-    assert!(rt; zero.next(Some(&Outcome::Fine), &Blind).is_none());
+    assert!(rt; next_of(&mut zero, Some(&Outcome::Fine)).is_none());
 }

@@ -3,7 +3,7 @@
 use crate::lines::Line;
 use crate::parser::Parser;
 use crate::stage::Stage;
-use crate::tests::{Blind, assert_places, assert_read, first_fault, place_at, work_of};
+use crate::tests::{assert_places, assert_read, first_fault, next_of, place_at, work_of};
 use xv_model::operations::Op;
 use xv_model::outcomes::Outcome;
 
@@ -90,7 +90,7 @@ fn refuses_a_second_page_of_a_source_with_one(rt: HostRuntime) {
 #[test]
 fn makes_accesses_to_pages(rt: HostRuntime) {
     let mut load = work_of(&rt, b"0 load 7 1 0xc12");
-    match load.next(None, &Blind) {
+    match next_of(&mut load, None) {
         Some(
             Op::Esb {
                 s,
@@ -111,8 +111,8 @@ fn makes_accesses_to_pages(rt: HostRuntime) {
         new: 2,
         forward: 1,
     };
-    assert!(rt; load.next(Some(&forwarded), &Blind).is_none());
-    match work_of(&rt, b"0 store 8191 0 65535").next(None, &Blind) {
+    assert!(rt; next_of(&mut load, Some(&forwarded)).is_none());
+    match next_of(&mut work_of(&rt, b"0 store 8191 0 65535"), None) {
         Some(
             Op::Esb {
                 s,
@@ -138,7 +138,7 @@ fn makes_accesses_to_pages_of_ends(rt: HostRuntime) {
     ];
     for (line, stores) in lines {
         let mut work = work_of(&rt, line);
-        match work.next(None, &Blind) {
+        match next_of(&mut work, None) {
             Some(
                 Op::EndEsb {
                     e,
@@ -154,6 +154,6 @@ fn makes_accesses_to_pages_of_ends(rt: HostRuntime) {
             }
             _ => assert!(rt; false),
         }
-        assert!(rt; work.next(Some(&Outcome::NoEnd), &Blind).is_none());
+        assert!(rt; next_of(&mut work, Some(&Outcome::NoEnd)).is_none());
     }
 }

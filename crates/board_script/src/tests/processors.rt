@@ -1,9 +1,16 @@
 //! Lines on processors, messages and rings.
 
-use crate::tests::{Blind, assert_places, assert_read, work_of};
+use crate::tests::{assert_places, assert_read, next_of, next_while, work_of};
+use crate::work::{Then, Work};
 use std::process::Abort;
 use xv_model::operations::{Access, Op};
-use xv_model::outcomes::{Outcome, Presented};
+use xv_model::outcomes::{Outcome, Presented, Routed};
+
+/// A route that found no valid EAS.
+const ROUTED: Outcome = Outcome::Routed {
+    k: 1,
+    routed: Routed::NoSource,
+};
 
 #[test]
 fn reads_lines_on_processors(rt: HostRuntime) {
@@ -121,23 +128,19 @@ fn refuses_lines_on_rings(rt: HostRuntime) {
 #[test]
 fn makes_moves_of_contexts(rt: HostRuntime) {
     let mut connect = work_of(&rt, b"0 connect 63");
-    assert!(rt; matches!(connect.next(None, &Blind), Some(Op::Connect { v: 63 })));
-    assert!(rt;
-        connect
-            .next(Some(&Outcome::Code { code: 0 }), &Blind)
-            .is_none()
-    );
+    assert!(rt; matches!(next_of(&mut connect, None), Some(Op::Connect { v: 63 })));
+    assert!(rt; next_of(&mut connect, Some(&Outcome::Code { code: 0 })).is_none());
     let mut restore = work_of(&rt, b"0 restore 17 5");
     assert!(rt;
         matches!(
-            restore.next(None, &Blind),
+            next_of(&mut restore, None),
             Some(Op::Restore { v: 17, t: 5 })
         )
     );
-    assert!(rt; restore.next(Some(&Outcome::Fine), &Blind).is_none());
+    assert!(rt; next_of(&mut restore, Some(&Outcome::Fine)).is_none());
     let mut save = work_of(&rt, b"0 save 9");
-    assert!(rt; matches!(save.next(None, &Blind), Some(Op::Save { v: 9 })));
-    assert!(rt; save.next(Some(&Outcome::Fine), &Blind).is_none());
+    assert!(rt; matches!(next_of(&mut save, None), Some(Op::Save { v: 9 })));
+    assert!(rt; next_of(&mut save, Some(&Outcome::Fine)).is_none());
 }
 
 /// Asserts that a line makes one access of a thread to the TIMA: on a page at an offset, of so many bytes, a load
@@ -150,7 +153,7 @@ fn assert_access(
     stored: Option<u64>,
 ) {
     let mut work = work_of(rt, line);
-    match work.next(None, &Blind) {
+    match next_of(&mut work, None) {
         Some(
             Op::Tima {
                 t,
@@ -171,7 +174,7 @@ fn assert_access(
         }
         _ => assert!(rt; false),
     }
-    assert!(rt; work.next(Some(&Outcome::BadAccess), &Blind).is_none());
+    assert!(rt; next_of(&mut work, Some(&Outcome::BadAccess)).is_none());
 }
 
 #[test]
@@ -194,14 +197,14 @@ fn makes_takes(rt: HostRuntime) {
         escalates: false,
     };
     let mut take = work_of(&rt, b"0 take 4294967295");
-    assert!(rt; matches!(take.next(None, &Blind), Some(Op::Take { i: 4294967295 })));
-    assert!(rt; take.next(Some(&found), &Blind).is_none());
+    assert!(rt; matches!(next_of(&mut take, None), Some(Op::Take { i: 4294967295 })));
+    assert!(rt; next_of(&mut take, Some(&found)).is_none());
 }
 
 #[test]
 fn takes_messages_until_there_is_none(rt: HostRuntime) {
     let mut settle = work_of(&rt, b"3 settle");
-    assert!(rt; matches!(settle.next(None, &Blind), Some(Op::Take { i: 0 })));
+    assert!(rt; matches!(next_of(&mut settle, None), Some(Op::Take { i: 0 })));
     for presented in [Presented::Found, Presented::Backlogged, Presented::Lost] {
         for escalates in [false, true] {
             let found = Outcome::Present {
@@ -210,18 +213,134 @@ fn takes_messages_until_there_is_none(rt: HostRuntime) {
                 presented,
                 escalates,
             };
-            assert!(rt; matches!(settle.next(Some(&found), &Blind), Some(Op::Take { i: 0 })));
+            assert!(rt; matches!(next_of(&mut settle, Some(&found)), Some(Op::Take { i: 0 })));
         }
     }
     let escalated = Outcome::Escalated { e: 7, run: None };
     assert!(rt;
         matches!(
-            settle.next(Some(&escalated), &Blind),
+            next_of(&mut settle, Some(&escalated)),
             Some(Op::Take { i: 0 })
         )
     );
-    assert!(rt; settle.next(Some(&Outcome::NoMessage), &Blind).is_none());
+    assert!(rt; next_of(&mut settle, Some(&Outcome::NoMessage)).is_none());
     let mut refused = work_of(&rt, b"3 settle");
-    assert!(rt; refused.next(None, &Blind).is_some());
-    assert!(rt; refused.next(Some(&Outcome::BadAccess), &Blind).is_none());
+    assert!(rt; next_of(&mut refused, None).is_some());
+    assert!(rt; next_of(&mut refused, Some(&Outcome::BadAccess)).is_none());
+}
+
+#[test]
+fn brings_a_source_to_rest(rt: HostRuntime) {
+    let mut sync = work_of(&rt, b"3 sync 7");
+    let found = Outcome::Escalated { e: 7, run: None };
+    let none = Outcome::NoMessage;
+    assert!(rt; matches!(next_while(&mut sync, None, 7), Some(Op::Take { i: 0 })));
+    assert!(rt;
+        matches!(
+            next_while(&mut sync, Some(&found), 7),
+            Some(Op::Take { i: 0 })
+        )
+    );
+    assert!(rt;
+        matches!(
+            next_while(&mut sync, Some(&none), 7),
+            Some(Op::Route { s: 7 })
+        )
+    );
+    assert!(rt;
+        matches!(
+            next_while(&mut sync, Some(&ROUTED), 7),
+            Some(Op::Take { i: 0 })
+        )
+    );
+    assert!(rt;
+        matches!(
+            next_while(&mut sync, Some(&none), 6),
+            Some(Op::Quiet { s: 7 })
+        )
+    );
+    assert!(rt; next_while(&mut sync, Some(&Outcome::Quiet), 6).is_none());
+    let busy = Outcome::Busy {
+        notices: 1,
+        messages: 0,
+    };
+    assert!(rt; next_while(&mut sync, Some(&busy), 7).is_none());
+}
+
+#[test]
+fn drains_each_source(rt: HostRuntime) {
+    let mut drain = work_of(&rt, b"3 drain");
+    let none = Outcome::NoMessage;
+    assert!(rt; matches!(next_while(&mut drain, None, 0), Some(Op::Take { i: 0 })));
+    assert!(rt;
+        matches!(
+            next_while(&mut drain, Some(&none), 0),
+            Some(Op::Route { s: 0 })
+        )
+    );
+    assert!(rt;
+        matches!(
+            next_while(&mut drain, Some(&ROUTED), 0),
+            Some(Op::Take { i: 0 })
+        )
+    );
+    assert!(rt;
+        matches!(
+            next_while(&mut drain, Some(&none), 8191),
+            Some(Op::Route { s: 8191 })
+        )
+    );
+    assert!(rt; next_while(&mut drain, Some(&none), 8192).is_none());
+}
+
+/// Asserts the place of a line that drains the largest board.
+fn assert_place(rt: &impl Abort, drain: &Work, place: u32) {
+    match drain.then {
+        Then::Drain { from, sources } => {
+            assert_eq!(rt; from, place);
+            assert_eq!(rt; sources, 8192);
+        }
+        _ => assert!(rt; false),
+    }
+}
+
+#[test]
+fn drains_from_a_place_that_moves(rt: HostRuntime) {
+    let mut drain = work_of(&rt, b"3 drain");
+    let none = Outcome::NoMessage;
+    assert!(rt; matches!(next_while(&mut drain, None, 5), Some(Op::Take { i: 0 })));
+    assert_place(&rt, &drain, 0);
+    for source in [5, 5, 9] {
+        match next_while(&mut drain, Some(&none), source) {
+            Some(Op::Route { s }) => assert_eq!(rt; s, source),
+            _ => assert!(rt; false),
+        }
+        assert_place(&rt, &drain, source);
+        assert!(rt;
+            matches!(
+                next_while(&mut drain, Some(&ROUTED), source),
+                Some(Op::Take { i: 0 })
+            )
+        );
+        assert_place(&rt, &drain, source);
+    }
+    assert!(rt; next_while(&mut drain, Some(&none), 8).is_none());
+    assert_place(&rt, &drain, 9);
+}
+
+#[test]
+fn reads_and_refuses_lines_that_settle(rt: HostRuntime) {
+    let places = [
+        (b"0 sync 8191".as_slice(), 0),
+        (b"0 quiet 0x1fff", 0),
+        (b" 0  drain ", 0),
+        (b"0 sync 8192", 8),
+        (b"0 quiet 8192", 9),
+        (b"0 quiet", 8),
+        (b"0 sync", 7),
+        (b"0 sync 0 0", 10),
+        (b"0 drain 0", 9),
+        (b"0 Drain", 3),
+    ];
+    assert_places(&rt, &places);
 }

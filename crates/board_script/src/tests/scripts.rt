@@ -3,7 +3,7 @@
 use crate::faults::{Cause, ScriptFault};
 use crate::lines::Line;
 use crate::parser::Parser;
-use crate::tests::{Blind, after_header, first_fault};
+use crate::tests::{after_header, first_fault, next_of};
 use xv_model::operations::{Op, PqOp};
 use xv_model::outcomes::Outcome;
 
@@ -12,7 +12,7 @@ fn reads_a_script(rt: HostRuntime) {
     let mut parser = after_header(&rt);
     match parser.feed(b"15 set 8191 10") {
         Ok(Line::Work { actor, mut work }) => {
-            let first = work.next(None, &Blind);
+            let first = next_of(&mut work, None);
             assert_eq!(rt; actor, 15);
             assert!(rt;
                 matches!(
@@ -28,7 +28,7 @@ fn reads_a_script(rt: HostRuntime) {
                 new: 2,
                 forward: 0,
             };
-            assert!(rt; work.next(Some(&set), &Blind).is_none());
+            assert!(rt; next_of(&mut work, Some(&set)).is_none());
         }
         _ => assert!(rt; false),
     }

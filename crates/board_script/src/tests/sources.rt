@@ -1,6 +1,6 @@
 //! Lines on the word of a source.
 
-use crate::tests::{Blind, assert_places, assert_read, work_of};
+use crate::tests::{assert_places, assert_read, next_of, work_of};
 use xv_model::operations::{Op, PqOp};
 use xv_model::outcomes::Outcome;
 
@@ -40,7 +40,7 @@ fn routes_what_a_line_forwards(rt: HostRuntime) {
         forward: 0,
     };
     let mut fire = work_of(&rt, b"3 fire 7");
-    let first = fire.next(None, &Blind);
+    let first = next_of(&mut fire, None);
     assert!(rt;
         matches!(
             first,
@@ -52,13 +52,13 @@ fn routes_what_a_line_forwards(rt: HostRuntime) {
     );
     assert!(rt;
         matches!(
-            fire.next(Some(&forwarded), &Blind),
+            next_of(&mut fire, Some(&forwarded)),
             Some(Op::Route { s: 7 })
         )
     );
-    assert!(rt; fire.next(Some(&Outcome::NoNotice), &Blind).is_none());
+    assert!(rt; next_of(&mut fire, Some(&Outcome::NoNotice)).is_none());
     let mut finish = work_of(&rt, b"3 finish 9");
-    let first = finish.next(None, &Blind);
+    let first = next_of(&mut finish, None);
     assert!(rt;
         matches!(
             first,
@@ -70,21 +70,21 @@ fn routes_what_a_line_forwards(rt: HostRuntime) {
     );
     assert!(rt;
         matches!(
-            finish.next(Some(&forwarded), &Blind),
+            next_of(&mut finish, Some(&forwarded)),
             Some(Op::Route { s: 9 })
         )
     );
     for last in [coalesced, Outcome::Spent] {
         let mut quiet = work_of(&rt, b"3 fire 7");
-        assert!(rt; quiet.next(None, &Blind).is_some());
-        assert!(rt; quiet.next(Some(&last), &Blind).is_none());
+        assert!(rt; next_of(&mut quiet, None).is_some());
+        assert!(rt; next_of(&mut quiet, Some(&last)).is_none());
     }
     let mut trigger = work_of(&rt, b"3 trigger 7");
-    assert!(rt; trigger.next(None, &Blind).is_some());
-    assert!(rt; trigger.next(Some(&forwarded), &Blind).is_none());
+    assert!(rt; next_of(&mut trigger, None).is_some());
+    assert!(rt; next_of(&mut trigger, Some(&forwarded)).is_none());
     let mut route = work_of(&rt, b"3 route 7");
-    assert!(rt; matches!(route.next(None, &Blind), Some(Op::Route { s: 7 })));
-    assert!(rt; route.next(Some(&forwarded), &Blind).is_none());
+    assert!(rt; matches!(next_of(&mut route, None), Some(Op::Route { s: 7 })));
+    assert!(rt; next_of(&mut route, Some(&forwarded)).is_none());
 }
 
 #[test]
@@ -137,7 +137,7 @@ fn reads_all_words_before_it_asks_for_a_level_source(rt: HostRuntime) {
 
 #[test]
 fn makes_operations_of_level_sources(rt: HostRuntime) {
-    let raise = work_of(&rt, b"0 raise 4").next(None, &Blind);
+    let raise = next_of(&mut work_of(&rt, b"0 raise 4"), None);
     assert!(rt;
         matches!(
             raise,
@@ -147,7 +147,7 @@ fn makes_operations_of_level_sources(rt: HostRuntime) {
             })
         )
     );
-    let lower = work_of(&rt, b"0 lower 5").next(None, &Blind);
+    let lower = next_of(&mut work_of(&rt, b"0 lower 5"), None);
     assert!(rt;
         matches!(
             lower,
@@ -159,7 +159,7 @@ fn makes_operations_of_level_sources(rt: HostRuntime) {
     );
     let words = [(b"0 init 6 1".as_slice(), true), (b"0 init 6 0x00", false)];
     for (line, up) in words {
-        match work_of(&rt, line).next(None, &Blind) {
+        match next_of(&mut work_of(&rt, line), None) {
             Some(
                 Op::Pq {
                     s: 6,
@@ -179,7 +179,7 @@ fn routes_what_an_assertion_forwards(rt: HostRuntime) {
         forward: 1,
     };
     let mut line = work_of(&rt, b"3 assert 5");
-    let first = line.next(None, &Blind);
+    let first = next_of(&mut line, None);
     assert!(rt;
         matches!(
             first,
@@ -191,20 +191,20 @@ fn routes_what_an_assertion_forwards(rt: HostRuntime) {
     );
     assert!(rt;
         matches!(
-            line.next(Some(&forwarded), &Blind),
+            next_of(&mut line, Some(&forwarded)),
             Some(Op::Route { s: 5 })
         )
     );
-    assert!(rt; line.next(Some(&Outcome::NoNotice), &Blind).is_none());
+    assert!(rt; next_of(&mut line, Some(&Outcome::NoNotice)).is_none());
     let masked = Outcome::Pq {
         old: 1,
         new: 1,
         forward: 0,
     };
     let mut quiet = work_of(&rt, b"3 assert 5");
-    assert!(rt; quiet.next(None, &Blind).is_some());
-    assert!(rt; quiet.next(Some(&masked), &Blind).is_none());
+    assert!(rt; next_of(&mut quiet, None).is_some());
+    assert!(rt; next_of(&mut quiet, Some(&masked)).is_none());
     let mut raise = work_of(&rt, b"3 raise 5");
-    assert!(rt; raise.next(None, &Blind).is_some());
-    assert!(rt; raise.next(Some(&forwarded), &Blind).is_none());
+    assert!(rt; next_of(&mut raise, None).is_some());
+    assert!(rt; next_of(&mut raise, Some(&forwarded)).is_none());
 }
