@@ -21,6 +21,8 @@ use Rattle.xv_model.proofs.ShownLaws.{each_is_shown}
 use Rattle.xv_model.proofs.PendingLaws.{each_is_in_ring, each_stays_pending}
 use Rattle.xv_model.proofs.AcknowledgementLaws.{each_accepts_most_favoured, each_answers_accepted, each_leaves_alone, each_leaves_all}
 use Rattle.xv_model.proofs.RouteLaws.{routed_in_order, once_forwarded, each_enters_once}
+use Rattle.xv_model.proofs.FewMessages.{quiet_is_quiet, takes_are_few, messages_are_few}
+use Rattle.xv_model.proofs.EscalationLaws.{undelivered_escalates, silent_escalates, escalation_runs}
 use Rattle.account.specs.Account.{report_text, account_text}
 use Rattle.account.specs.text.Refusal.{too_long_line}
 use Rattle.machine.specs.Machine.{Held, StandsFor}
@@ -193,6 +195,9 @@ account_written a v t t' n meets r = record {
   come_again = comes_again r.board r.account r.ran.1;
   routed_in_order = routed_in_order r.board r.account r.ran.1;
   once_forwarded = once_forwarded r.board r.account r.ran.1;
+  quiet_is_quiet = quiet_is_quiet r.board r.account r.ran.1;
+  takes_are_few = takes_are_few r.board r.account r.ran.1;
+  messages_are_few = messages_are_few r.board r.account r.ran.1;
   enter_once = each_enters_once r.board r.account r.ran.1;
   reads_next = each_reads_next r.board r.account r.ran.1;
   reads_as_written = each_reads_as_written r.board r.account r.ran.1;
@@ -206,6 +211,9 @@ account_written a v t t' n meets r = record {
   answer_accepted = each_answers_accepted r.board r.account r.ran.1;
   leave_alone = each_leaves_alone r.board r.account r.ran.1;
   leave_all = each_leaves_all r.board r.account r.ran.1;
+  undelivered_escalate = undelivered_escalates r.board r.account r.ran.1;
+  silent_escalate = silent_escalates r.board r.account r.ran.1;
+  escalations_run = escalation_runs r.board r.account r.ran.1;
   written = appended t t' (account_text r.board r.account) n.gathered r.all r.tells;
 }
 

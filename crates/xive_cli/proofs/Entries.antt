@@ -6,6 +6,7 @@ use Rattle.xv_model.specs.declared.outcomes.Outcome.{Outcome}
 use Rattle.xv_model.specs.declared.entries.Entry.{Entry}
 use Rattle.xv_model.specs.account.Start.{Start}
 use Rattle.xv_model.specs.account.Burden.{burden}
+use Rattle.xv_model.specs.account.Fit.{IsFitStart}
 use Rattle.xv_model.specs.account.Index.{next_index}
 use Rattle.xv_model.specs.account.Legal.{legal}
 use Rattle.xv_model.specs.board.Validity.{valid}
@@ -62,20 +63,20 @@ entry_failed w m m' o t0 t t' z before part l r n f = (
 
 -- each entry brings the load of the line down
 pub load_falls : (w : WorkLine) (going going' : Work) (last : Option Outcome) (m m' : Held) (o : Op) (outcome : Outcome) (t0 t t' : Told) (z : Start) (before part : List Entry) → RunsPart w m t0 t z before part → MakesNext w m o z before part →
-    TellsEntry m t (entry_of w.actor o outcome) m' t' → Falls going going' last z (part ++ before) o → load going' (Some outcome) (burden_of m') < load going last (burden_of m)
-load_falls w going going' last m m' o outcome t0 t t' z before part r n e falls =
+    TellsEntry m t (entry_of w.actor o outcome) m' t' → IsFitStart z → Falls going going' last z (part ++ before) o → load going' (Some outcome) (burden_of m') < load going last (burden_of m)
+load_falls w going going' last m m' o outcome t0 t t' z before part r n e fit falls =
     let x = entry_of w.actor o outcome in
     let ran = entry_ran w m m' o outcome t0 t t' z before part r n e in
     subst (λ b. load going' (Some outcome) b < load going last (burden_of m)) (sym (burden_of-is m' z (x ∷ (part ++ before)) ran.stands))
-    (subst (λ b. load going' (Some outcome) (burden z (x ∷ (part ++ before))) < load going last b) (sym (burden_of-is m z (part ++ before) r.stands)) (falls x refl ran.is_part.legal))
+    (subst (λ b. load going' (Some outcome) (burden z (x ∷ (part ++ before))) < load going last b) (sym (burden_of-is m z (part ++ before) r.stands)) (falls fit x refl ran.is_part.legal))
 
 -- a line that makes an operation had some load
 pub some_load : (w : WorkLine) (going going' : Work) (last : Option Outcome) (m : Held) (o : Op) (t0 t : Told) (z : Start) (before part : List Entry) → RunsPart w m t0 t z before part → MakesNext w m o z before part →
-    Falls going going' last z (part ++ before) o → 0 < load going last (burden_of m)
-some_load w going going' last m o t0 t z before part r n falls =
+    IsFitStart z → Falls going going' last z (part ++ before) o → 0 < load going last (burden_of m)
+some_load w going going' last m o t0 t z before part r n fit falls =
     let x = entry_of w.actor o (legal z (part ++ before) o) in
     let p = goes_legally w m o (legal z (part ++ before) o) z before part r.is_part r.stands n refl in
-    let less = subst (λ b. load going' (Some x.outcome) (burden z (x ∷ (part ++ before))) < load going last b) (sym (burden_of-is m z (part ++ before) r.stands)) (falls x refl p.legal) in
+    let less = subst (λ b. load going' (Some x.outcome) (burden z (x ∷ (part ++ before))) < load going last b) (sym (burden_of-is m z (part ++ before) r.stands)) (falls fit x refl p.legal) in
     omega (arith, less)
 
 pub entry_is : (x : Entry) (actor : ℕ) (o : Op) → x.actor ≡ actor → x.op ≡ o → entry_of actor o x.outcome ≡ x

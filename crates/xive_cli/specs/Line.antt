@@ -4,6 +4,7 @@ use Rattle.xv_model.specs.declared.operations.Op.{Op}
 use Rattle.xv_model.specs.declared.outcomes.Outcome.{Outcome}
 use Rattle.xv_model.specs.declared.entries.Entry.{Entry}
 use Rattle.xv_model.specs.account.Start.{Start}
+use Rattle.xv_model.specs.account.Fit.{IsFitStart}
 use Rattle.xv_model.specs.account.Index.{next_index}
 use Rattle.xv_model.specs.account.Legal.{IsLegal, legal}
 use Rattle.xv_model.specs.account.Scripts.{Line, Begins}
@@ -13,9 +14,9 @@ use Rattle.board_script.specs.Script.{WorkLine, line_for}
 use Rattle.board_script.specs.Work.{next_op}
 use Rattle.xive_cli.specs.Output.{Told, Tells, Fails}
 
--- the machine represents a legal account
+-- the machine represents a legal account, which goes on from a start record in which escalations end
 abbrev pub IsLegalMachine : Held → Type 0
-IsLegalMachine m = (z : Start) × (h : List Entry) × StandsFor m z h × IsLegal z h
+IsLegalMachine m = (z : Start) × (h : List Entry) × StandsFor m z h × IsLegal z h × IsFitStart z
 
 abbrev pub entry_of : ℕ → Op → Outcome → Entry
 entry_of actor o outcome = record { actor = actor; op = o; outcome = outcome }

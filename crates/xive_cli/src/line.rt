@@ -1,6 +1,6 @@
 //! The entries of a work line: the machine makes them, and their lines are told.
 
-ghost use Rattle.std.specs.Prelude.{◌≡◌, ◌+◌, ◌^◌, ◌<◌, ◌≤◌, IfOk, OnOk, OnErr, None, IsTrue};
+ghost use Rattle.std.specs.Prelude.{◌≡◌, ◌+◌, ◌*◌, ◌^◌, ◌<◌, ◌≤◌, IfOk, OnOk, OnErr, None, IsTrue};
 ghost use Rattle.xv_model.specs.board.Validity.{valid};
 ghost use Rattle.board_script.specs.Lines.{IsWork};
 ghost use Rattle.board_script.specs.Work.{load};
@@ -60,7 +60,7 @@ pub fn run_line<K: Sink>(
     requires room { machine.old.count + load work None (burden_of machine.old) ≤ 2 ^ 62 }
     ensures sink { output.new.sink.ghost_name ≡ output.old.sink.ghost_name }
     ensures board { machine.new.fabric.tables.board ≡ machine.old.fabric.tables.board }
-    ensures few { OnOk result (machine.new.count + burden_of machine.new
+    ensures few { OnOk result (machine.new.count + 2 * burden_of machine.new
         ≤ machine.old.count + load work None (burden_of machine.old)) }
     ensures runs { OnOk result (RunsLine (record { actor = actor; work = work })
         machine.old (told output.old) machine.new (told output.new)) }

@@ -3,6 +3,7 @@
 ghost use Rattle.std.specs.Prelude.{ℕ, ◌≡◌, ◌≤◌, ◌↔◌, ◌⊎◌, [], List, Some, None};
 ghost use Rattle.std.specs.Io.KnownBytes.{Appends};
 ghost use Rattle.xv_io.specs.Faults.{HasRisen};
+ghost use Rattle.board_script.specs.Resting.{DrainsLeaveNothing, SettlesLeaveNoMessage, SyncsEndQuiet};
 ghost use Rattle.board_script.specs.Script.{EachHasAccount, OneOfEach, script_of};
 ghost use Rattle.xive_cli.specs.Command.{command_of};
 ghost use Rattle.xive_cli.specs.Top.{IsBuilt};
@@ -54,6 +55,11 @@ pub fn run_top<S: Source, K: Sink>(
     // Each list of bytes has one account.
     ensures account { EachHasAccount }
     ensures one_account { OneOfEach }
+
+    // Lines that bring to rest do so.
+    ensures settles { SettlesLeaveNoMessage }
+    ensures syncs { SyncsEndQuiet }
+    ensures drains { DrainsLeaveNothing }
     ensures source_count { S.faults source.old ≤ S.faults source.new }
     ensures sink_count { K.faults sink.old ≤ K.faults sink.new }
 {

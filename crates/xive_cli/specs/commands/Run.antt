@@ -12,6 +12,8 @@ use Rattle.xv_model.specs.account.Legal.{IsLegal}
 use Rattle.xv_model.specs.account.Scripts.{Follows}
 use Rattle.xv_model.specs.laws.Triggers.{AreNumbered, AreAccounted, ComeAgain}
 use Rattle.xv_model.specs.laws.Entering.{RoutesAreNumbered, RoutesAreForwarded, EntersOnce}
+use Rattle.xv_model.specs.laws.Notices.{QuietIsQuiet, TakesAreFew, MessagesAreFew}
+use Rattle.xv_model.specs.laws.Escalations.{UndeliveredEscalates, SilentEscalates, EscalationRuns}
 use Rattle.xv_model.specs.laws.Acknowledgements.{AcceptMostFavoured, AnswerAccepted, LeaveAlone, LeaveAll}
 use Rattle.xv_model.specs.laws.Pending.{HaveOneUser, AreUsers, AreKeptOff, AreInRing, AreShown, StayPending}
 use Rattle.xv_model.specs.laws.Queues.{ReadsNext, ReadsAsWritten}
@@ -50,7 +52,7 @@ status_of (Accepted b work) = status.Done
 status_of (Refused fault so_far) = status.Refused
 status_of (TooLong so_far) = status.TooLong
 
--- the known bytes are a script of a board and work lines, and what was appended is the text of that board and of an account that follows the lines and is legal from the board's start record; the forwards, triggers, coalesced triggers and routes of this account, what these write, what is read of it, and what is pending and acknowledged in it, are as the laws say
+-- the known bytes are a script of a board and work lines, and what was appended is the text of that board and of an account that follows the lines and is legal from the board's start record; the forwards, triggers, coalesced triggers and routes of this account, its messages and what is quiet in it, what these write, what is read of it, what is pending and acknowledged in it, and what escalates, are as the laws say
 pub record WritesAccount (bytes held held' : Option (List ℕ)) : Type 0 where
   pub board : Board
   pub work : List WorkLine
@@ -63,6 +65,9 @@ pub record WritesAccount (bytes held held' : Option (List ℕ)) : Type 0 where
   pub come_again : ComeAgain board account
   pub routed_in_order : RoutesAreNumbered board account
   pub once_forwarded : RoutesAreForwarded board account
+  pub quiet_is_quiet : QuietIsQuiet board account
+  pub takes_are_few : TakesAreFew board account
+  pub messages_are_few : MessagesAreFew board account
   pub enter_once : EntersOnce board account
   pub reads_next : ReadsNext board account
   pub reads_as_written : ReadsAsWritten board account
@@ -76,6 +81,9 @@ pub record WritesAccount (bytes held held' : Option (List ℕ)) : Type 0 where
   pub answer_accepted : AnswerAccepted board account
   pub leave_alone : LeaveAlone board account
   pub leave_all : LeaveAll board account
+  pub undelivered_escalate : UndeliveredEscalates board account
+  pub silent_escalate : SilentEscalates board account
+  pub escalations_run : EscalationRuns board account
   pub written : Appends held held' (account_text board account)
 
 -- a line of the known bytes is refused, and what was appended is what the lines before it give, and the refusal

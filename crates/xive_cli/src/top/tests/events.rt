@@ -91,7 +91,7 @@ fn full_bus(rt: HostRuntime) -> Result<(), Fail> {
         rt.alloc(),
         false,
         4096,
-        b"0 trigger 0\n0 route 0\n0 finish 0\n0 fire 0\n",
-        "12291 0 trigger 0 -> 00 10 forward 4097\n12292 0 route 0 -> bus-full\n12293 0 eoi 0 -> 10 00\n12294 0 trigger 0 -> 00 10 forward 4098\n12295 0 route 0 -> bus-full\nend 12296\nsource 0 10 4098 4096\nqueue 0 vnb 0 0 00 00\nprocessor 0 saved 0x0 0x0 0x0\nring 0 0x0 0x0 0x0 0xff 0x0\nflight 4096\nnotices 2\ndone\n",
+        b"0 trigger 0\n0 route 0\n0 take 0\n0 route 0\n",
+        "12291 0 trigger 0 -> 00 10 forward 4097\n12292 0 route 0 -> bus-full\n12293 0 take 0 -> present 0 0 backlogged\n12294 0 route 0 -> 4097 end 0 unwritten present\nend 12295\nsource 0 10 4097 4097\nqueue 0 vnb 0 0 00 00\nprocessor 0 saved 0x0 0x0 0x80\nring 0 0x0 0x0 0x0 0xff 0x0\nflight 4096\nnotices 0\ndone\n",
     )
 }
