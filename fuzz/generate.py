@@ -3,7 +3,6 @@
 notified wherever their context is, moves out of turn, lines that are wrong.
 
     fuzz/generate.py SEED                   the script of a seed, always the same one
-    fuzz/generate.py --escalation SEED      a script with ENDs that escalate, and with quiet, sync and drain
     fuzz/generate.py deep                   one long script: a queue of 2 MiB wraps, and is read across the wrap
 
 A script is given to the model while it is made, so that the generator knows pairs and places; nothing else comes from
@@ -29,12 +28,12 @@ ODD_LINES = """start; end 0; END; end now; go; board 1; sources 1; unclaimed 0 0
     0 hcall 0x3ac 0 0 0 0; 0 hcall 0x3ac 0 0 0 0 0 0; 0 hcall 0x300003ac 0 0 0 0 0; 0 Read 0; 0 read; 0 read 0 0
     0 peek; 0 peek 0 0; 0 zero 0; 0 zero 0 0 0; 0 reads 0; 0 peak 0; read 0; peek 0; zero 0 4; 0 read 0x; 0 peek -4
     0 zero 0 -4; 0 peek 18446744073709551616; 0 zero 0 0x10000000000000000; 0 read 4294967296
-    0 endset 0 vqe 0 0 0 12 7 0; 0 endset 0 vu 0 0 0 0 0 0; 0 endset 0 vs 0 0 0 0 0 0; 0 endset 0 v 0 0 0 0 7 0
+    0 endset 0 v 0 0 0 0 7 0
     0 endset 0 v 0 0 0 0 0 1; 0 endset 0 q 0 0 0 12 0 0; 0 endset 0 v 0 0 0x1000 0 0 0; 0 endset 0 v 0 0 0 12 0 0
     0 endset 0 - 0 1 0 0 0 0; 0 endset 0 - 0 0 0x1000 0 0 0; 0 endset 0 vq 0 0 0 4294967308 0 0; 0 raise 0; 0 lower 0
     0 endset 0 v 0 8 0 0 0 0; 0 assert 0; 0 init 0 1; 0 load 0 1 0; 0 endload 0 2 0; 0 peek 000000000000000000000
     0 tload 0 2 0x810 2; 0 tload 0 1 0x818 4; 0 tload 0 2 0x10 8; 0 tload 0 0 0x10 8; 0 tstore 0 2 0x11 1 4
-    0 tstore 0 1 0x18 4 0x80000400; 0 tstore 0 2 0x812 1 0; 0 quiet 0; 0 sync 0; 0 drain; 0 reset; 0 migrate; 0 start
+    0 tstore 0 1 0x18 4 0x80000400; 0 tstore 0 2 0x812 1 0; 0 reset; 0 migrate; 0 start
     0 kvmset 3 0 0; 0 kvmeq 0 1 12 0x1000 1 0; 0 kvmget 4 0; 0 vpget 0; 0 vpset 0 0xff 0; 0 escalate 0; 0 present 0 0
     0 settle 0; 0 settle 1; settle; 0 Settle; 0 settles; 0 take; 0 take 0 0; 0 take -1; 0 take 4294967296; take 0
     0 take 0x100000000; 0 takes 0; 0 connect; 0 connect 0 0; 0 disconnect 0; 0 restore 0; 0 restore 0 0 0; 0 restore
@@ -53,11 +52,10 @@ ODD_ESCALATION_LINES = [line.strip() for line in ODD_ESCALATION_LINES.replace("\
 
 
 class Script:
-    def __init__(self, seed, escalation=False):
+    def __init__(self, seed):
         self.random = random.Random(seed)
-        self.escalation = escalation
         self.lines = []
-        self.run = Run(escalation)
+        self.run = Run()
         self.broken = False  # a line was refused
         self.plain = False   # spell everything as one would write it
 
@@ -146,9 +144,8 @@ class Script:
         self.crew = pick.sample(self.processors, min(len(self.processors), most))  # the processors that are used most
         self.seats = pick.sample(self.threads, min(len(self.threads), pick.choice((1, 1, 2, 3))))  # likewise
         self.home = pick.randrange(max(1, self.size >> 12)) << 12  # where most queues are
-        if self.escalation:
-            last = self.ends[7::8]
-            self.relays = pick.sample(last, min(len(last), pick.choice((1, 1, 2))))  # to which ENDs escalate mostly
+        last = self.ends[7::8]
+        self.relays = pick.sample(last, min(len(last), pick.choice((1, 1, 2))))  # to which ENDs escalate mostly
 
     # -- what stands where
 
@@ -199,8 +196,6 @@ class Script:
     def escalates(self, e):
         """Letters behind the others, an END and a payload: how an END escalates."""
         pick = self.random
-        if not self.escalation:
-            return "", 0, 0
         if e % 8 == 7:
             return pick.choice(("",) * 9 + ("u", "s", "us")), 0, 0
         letters = pick.choice(("", "s", "u", "us", *("e",) * 8, *("eu",) * 4, *("es",) * 3, "eus"))
@@ -413,7 +408,7 @@ class Script:
         pick = self.random
         inner, last = [e for e in self.ends if e % 8 < 7], list(self.ends[7::8])
         e, relay, letters, payload = pick.choice(inner), pick.choice(last), pick.choice(("ve", "vneu", "ves")), 0
-        what = pick.choice((1, 2, 3, 3, 5, 5, 6, 6, 6, 7, 7, 9, 9, 10))
+        what = pick.choice((1, 1, 2, 3, 3, 5, 5, 6, 6, 6, 7, 7, 9, 9, 9, 10, 10))
         if what == 1:
             payload = pick.choice((0x3fffffff, 0x7fffffff, 0x80000000, 0x80000000, 0xffffffff, 1 << 32, TOP - 1))
         elif what == 2:
@@ -430,7 +425,7 @@ class Script:
             letters, relay = pick.choice(("u", "s", "us", "e", "eus", "b", "-")), 0
             payload = pick.choice((0, 0, 0, 1))
         elif what == 9:
-            letters = pick.choice("vse vue vsu vsu vuse veb vee vees ev vE ve- vx vx vex".split())
+            letters = pick.choice("vse vue vsu vuse veb vee vee vees ev vE ve- vx vx vex vex".split())
             relay = relay if "e" in letters else 0
         else:
             return self.work(pick.choice(("quiet", "sync")), self.count + pick.choice((-1, 0, 0, 0, 1, 1 << 32)))
@@ -449,9 +444,8 @@ class Script:
     def any_line(self):
         lines = ((self.event, 29), (self.read, 25), (self.raw, 8), (self.peek, 8), (self.zero, 6), (self.assign, 5),
                  (self.configure, 5), (self.access, 8), (self.reopen, 2), (self.move, 4), (self.take, 3),
-                 (self.ring, 3), (self.remark, 4))
-        if self.escalation:
-            lines += (self.relay, 4), (self.reopen_either, 3), (self.owe, 3), (self.quiet, 4), (self.settle_all, 2)
+                 (self.ring, 3), (self.remark, 4), (self.relay, 4), (self.reopen_either, 3), (self.owe, 3),
+                 (self.quiet, 4), (self.settle_all, 2))
         self.choose(lines)()
 
     def choose(self, weighted):
@@ -732,6 +726,12 @@ class Script:
                                    TOP - 1))
         self.work(name, *numbers)
 
+    def wrong_kind(self):
+        """What only a level source has, mostly of a message source."""
+        pick = self.random
+        s = pick.choice([s for s in range(self.count) if not self.machine.sources[s].level] or [0])
+        self.work(*pick.choice((("raise", s), ("lower", s), ("assert", s), ("init", s, 1))))
+
     def wrong_queue(self):
         """Behind the end of memory, or not aligned, or of a length that no queue has."""
         pick = self.random
@@ -740,7 +740,7 @@ class Script:
                   (16, size), (16, TOP - 0x10000), (21, 0 if size < 1 << 21 else size),
                   (24, 0 if size < 1 << 24 else size))
         not_aligned = ((12, 4), (12, 0x800), (12, size - 0x800), (16, size - 0x1000), (16, 0x1000), (16, 0x8000),
-                       (21, 0x100000), (21, 0x10000), (24, 0x200000))
+                       (16, 0x3000), (16, 0x1f000), (21, 0x100000), (21, 0x10000), (24, 0x200000))
         no_such_length = ((13, 0), (13, 0), (13, 0x2000), (13, size - 0x2000), (14, 0x4000), (11, 0), (20, 0), (22, 0),
                           (2, 0), (0, 0), (32, 0), (64, 0), (76, 0))
         shift, address = pick.choice(pick.choice((beyond, not_aligned, no_such_length, ((12, self.home),))))
@@ -803,7 +803,8 @@ class Script:
         self.mix(pick.choice((0, 3, 20)))
         self.plain = True
         for _ in range(pick.choice((1, 1, 2, 4))):
-            self.choose(((self.odd_line, 9), (self.wrong_queue, 4), (self.wrong_number, 3), (self.spoiled_line, 4)))()
+            self.choose(((self.odd_line, 8), (self.wrong_queue, 5), (self.wrong_number, 4), (self.wrong_kind, 1),
+                         (self.spoiled_line, 4)))()
         self.mix(4)
 
     def refused_header(self):
@@ -839,7 +840,7 @@ class Script:
             lines[-1:-1] = [kind + b" 0 0" for kind in pick.sample(kinds, pick.choice((2, 2, 2, 3)))]
         else:
             lines[at] = self.spoil(lines[at])
-        self.lines, self.run, self.broken = [], Run(self.escalation), False
+        self.lines, self.run, self.broken = [], Run(), False
         for line in lines:
             self.feed(line)
         if self.run.machine and not self.broken:
@@ -850,20 +851,19 @@ class Script:
     # -- the whole
 
     def bytes(self):
-        scenes = ((self.wrapping, 20), (self.wrapping_64_kib, 3), (self.full_bus, 4), (self.mixed, 10),
-                  (self.edges, 10), (self.one_page, 7), (self.reconfigured, 7), (self.contexts, 40),
-                  (self.windows, 15), (self.drained_bus, 2), (self.refused, 110), (self.refused_header, 45))
-        if self.escalation:
-            scenes += ((self.escalating, 120), (self.changed_in_flight, 90), (self.outstanding, 60),
-                       (self.refused_escalation, 120))
+        scenes = ((self.wrapping, 28), (self.wrapping_64_kib, 4), (self.full_bus, 6), (self.mixed, 12),
+                  (self.edges, 14), (self.one_page, 9), (self.reconfigured, 9), (self.contexts, 56),
+                  (self.windows, 20), (self.drained_bus, 3), (self.refused, 170), (self.refused_header, 70),
+                  (self.escalating, 75), (self.changed_in_flight, 55), (self.outstanding, 40),
+                  (self.refused_escalation, 80))
         self.choose(scenes)()
         return b"\n".join(self.lines) + self.random.choice((
             b"", b"\n", b"\nend", b"\nend\n", b"\nend\n", b"\n\n# the end\n  \n",
             b"\n  end \nread 0\n\xff\n" + b"#" * 300 + b"\n0 read 0\n"))
 
 
-def generate(seed, escalation=False):
-    return Script(seed, escalation).bytes()
+def generate(seed):
+    return Script(seed).bytes()
 
 
 def deep():
@@ -875,11 +875,10 @@ def deep():
 
 
 def main():
-    escalation = sys.argv[1:2] == ["--escalation"]
-    words = sys.argv[1 + escalation:]
+    words = sys.argv[1:]
     if len(words) != 1:
-        sys.exit("usage: fuzz/generate.py [--escalation] SEED, or fuzz/generate.py deep")
-    sys.stdout.buffer.write(deep() if words == ["deep"] else generate(int(words[0]), escalation))
+        sys.exit("usage: fuzz/generate.py SEED, or fuzz/generate.py deep")
+    sys.stdout.buffer.write(deep() if words == ["deep"] else generate(int(words[0])))
 
 
 if __name__ == "__main__":

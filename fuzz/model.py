@@ -1,11 +1,9 @@
 #!/usr/bin/env python3
 """What `xive_cli run` has to write of a script: a second opinion, worked out from docs/FORMATS.md alone.
 
-    fuzz/model.py [--escalation] < SCRIPT
-                                writes the account; the exit status is 0 (done), 2 (refused) or 7 (too long)
+    fuzz/model.py < SCRIPT      writes the account; the exit status is 0 (done), 2 (refused) or 7 (too long)
 
-`run(script)` answers both, of bytes. The letters e, u and s and the lines `quiet`, `sync` and `drain` are in the
-language only with `--escalation`. Streams that fail and too little memory are not in it.
+`run(script)` answers both, of bytes. Streams that fail and too little memory are not in it.
 """
 import re
 import sys
@@ -310,8 +308,6 @@ LINES = {line.split()[0]: line.split()[1:] for line in (
     "endset E FLAGS V N N N E N", "endload E END-PAGE OFFSET", "endstore E END-PAGE OFFSET", "read E", "peek N",
     "zero N N", "connect V", "restore V T", "push T V", "pull T", "save V", "take I", "settle", "cppr T BYTE", "ack T",
     "inject T BYTE", "regs T", "quiet S", "sync S", "drain")}
-LATER_LINES = "quiet", "sync", "drain"
-LATER_FLAGS = set("eus")
 
 
 def is_among(n, ranges):
@@ -319,9 +315,8 @@ def is_among(n, ranges):
 
 
 class Machine:
-    def __init__(self, board, out, escalation):
+    def __init__(self, board, out):
         self.out = out
-        self.escalation = escalation  # whether the later lines and flags are in the language
         self.counts = board.counts
         self.pages, self.store_eoi = board.esb
         self.memory = Memory(board.counts["ram"])
@@ -341,8 +336,6 @@ class Machine:
         """Reads a work line, and makes its entries."""
         self.actor = within(words[0], 0, self.counts["actors"] - 1)
         if len(words) < 2 or words[1] not in LINES or len(words) - 2 != len(LINES[words[1]]):
-            raise Refused
-        if words[1] in LATER_LINES and not self.escalation:
             raise Refused
         fields = [self.field(name, word) for name, word in zip(LINES[words[1]], words[2:])]
         getattr(self, "line_" + words[1])(*fields)
@@ -468,8 +461,6 @@ class Machine:
 
     def line_endset(self, e, flags, v, priority, address, shift, escalation, payload):
         if "v" not in flags and (flags, v, priority) != ("-", 0, 0):
-            raise Refused
-        if LATER_FLAGS & set(flags) and not self.escalation:
             raise Refused
         if priority > 7 or not self.takes_queue(flags, address, shift):
             raise Refused
@@ -732,8 +723,7 @@ class Machine:
 
 
 class Run:
-    def __init__(self, escalation=False):
-        self.escalation = escalation
+    def __init__(self):
         self.board = Board()
         self.machine = None
         self.out = []
@@ -751,7 +741,7 @@ class Run:
         elif self.machine is not None:
             self.machine.line(words)
         elif self.board.feed(words):
-            self.machine = Machine(self.board, self.out, self.escalation)
+            self.machine = Machine(self.board, self.out)
             self.out += ["xive-account 1"] + self.board.text()
 
     def all(self, script):
@@ -782,16 +772,16 @@ class Run:
         return 0
 
 
-def run(script, escalation=False):
-    this = Run(escalation)
+def run(script):
+    this = Run()
     status = this.all(script)
     return ("\n".join(this.out) + "\n").encode("ascii"), status
 
 
 def main():
-    if sys.argv[1:] not in ([], ["--escalation"]):
-        sys.exit("usage: fuzz/model.py [--escalation] < SCRIPT")
-    written, status = run(sys.stdin.buffer.read(), len(sys.argv) == 2)
+    if len(sys.argv) != 1:
+        sys.exit("usage: fuzz/model.py < SCRIPT")
+    written, status = run(sys.stdin.buffer.read())
     sys.stdout.buffer.write(written)
     sys.exit(status)
 
