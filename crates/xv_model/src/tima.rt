@@ -8,6 +8,9 @@ pub const TM_HV_PAGE: u8 = 1;
 /// The operating system's page: a guest acknowledges there.
 pub const TM_OS_PAGE: u8 = 2;
 
+/// How many pages there are: of the hardware, the hypervisor, the OS and the user.
+pub const TM_PAGES: u8 = 4;
+
 /// Where the OS ring lies, on each page but the user's (QEMU's TM_QW1_OS).
 pub const TM_QW1_OS: u16 = 0x10;
 

@@ -1,16 +1,14 @@
 //! Which operations a board has.
 
-ghost use Rattle.std.specs.Prelude.{◌≡◌, nat_lt};
-ghost use Rattle.xv_model.specs.board.Validity.{valid as is_valid, has_op, end_count, is_queue_shift, is_queue as may_be_queue, has_queue as has_its_queue, has_no_escalation as lacks_escalation, has_nothing, is_escalation_end as may_be_escalation_end, has_escalation, notifies_one, may_be_configured, valid_config as may_be_config, is_cam_word as may_be_cam_word, has_tima_load, has_tima_store, has_access as has_its_access};
+ghost use Rattle.std.specs.Prelude.{◌≡◌, ◌*◌, ◌^◌, nat_lt, true};
+ghost use Rattle.xv_model.specs.processor.RingOps.{is_size};
+ghost use Rattle.xv_model.specs.board.Validity.{valid as is_valid, has_op, end_count, is_queue_shift, is_queue as may_be_queue, has_queue as has_its_queue, has_no_escalation as lacks_escalation, has_nothing, is_escalation_end as may_be_escalation_end, has_escalation, notifies_one, may_be_configured, valid_config as may_be_config, has_access as has_its_access};
 
 use crate::board::Board;
 use crate::hypercalls::H_INT_SET_SOURCE_CONFIG;
 use crate::operations::{Access, EndConfig, EndFlags, Op, PqOp};
 use crate::pages::END_PAGES;
-use crate::tima::{
-    CAM_FIRST, CAM_VALID, TM_ACKNOWLEDGE, TM_HV_PAGE, TM_OS_CAM, TM_OS_CPPR, TM_OS_PAGE,
-    TM_PULL_CONTEXT, TM_QW1_OS, TM_SET_PENDING,
-};
+use crate::tima::TM_PAGES;
 use bitflags::Flags;
 use xv_base::limits::ENDS_PER_PROCESSOR;
 
@@ -127,41 +125,31 @@ pub fn may_configure(board: &Board, e: u32, config: &EndConfig) -> bool
         && !(config.flags.contains(EndFlags::ESCALATE) && is_escalation_end(e))
 }
 
-/// Whether a value is the CAM word of a processor, with its valid bit.
-fn is_cam_word(board: &Board, value: u64) -> bool
-    ensures { result ≡ may_be_cam_word board.now value }
+/// Whether an access may have this many bytes.
+fn may_have(size: u8) -> bool
+    ensures { result ≡ is_size size }
 {
-    let first = CAM_VALID as u64 + CAM_FIRST as u64;
-    first <= value && value < first + board.limits.processors as u64
+    size == 1 || size == 2 || size == 4 || size == 8
 }
 
-/// Whether a load from the TIMA is built.
-fn loads(page: u8, offset: u16, size: u8) -> bool
-    ensures { result ≡ has_tima_load page offset size }
+/// Whether a value has no more than so many bytes.
+fn fits(value: u64, size: u8) -> bool
+    requires { is_size size ≡ true }
+    ensures { result ≡ nat_lt value (2 ^ (8 * size)) }
 {
-    (page == TM_OS_PAGE && offset == TM_QW1_OS && size == 8)
-        || (page == TM_OS_PAGE && offset == TM_ACKNOWLEDGE && size == 2)
-        || (page == TM_HV_PAGE && offset == TM_PULL_CONTEXT && size == 4)
+    size == 8 || value >> (8 * size) == 0
 }
 
-/// Whether a store to the TIMA is built.
-fn stores(board: &Board, page: u8, offset: u16, size: u8, value: u64) -> bool
-    ensures { result ≡ has_tima_store board.now page offset size value }
+/// Whether there is an access of so many bytes to a page of the TIMA.
+fn has_access(page: u8, size: u8, access: Access) -> bool
+    ensures { result ≡ has_its_access page size access }
 {
-    (page == TM_OS_PAGE
-        && (offset == TM_OS_CPPR || offset == TM_SET_PENDING)
-        && size == 1
-        && value < 1 << 8)
-        || (page == TM_HV_PAGE && offset == TM_OS_CAM && size == 4 && is_cam_word(board, value))
-}
-
-/// Whether an access to the TIMA is built.
-fn has_access(board: &Board, page: u8, offset: u16, size: u8, access: Access) -> bool
-    ensures { result ≡ has_its_access board.now page offset size access }
-{
+    if page >= TM_PAGES || !may_have(size) {
+        return false;
+    }
     match access {
-        Access::Load => loads(page, offset, size),
-        Access::Store { value } => stores(board, page, offset, size, value),
+        Access::Load => true,
+        Access::Store { value } => fits(value, size),
     }
 }
 
@@ -184,10 +172,10 @@ pub fn valid(board: &Board, op: &Op) -> bool
         Op::Tima {
             t,
             page,
-            offset,
+            offset: _,
             size,
             access,
-        } => { *t < board.limits.threads && has_access(board, *page, *offset, *size, *access) }
+        } => { *t < board.limits.threads && has_access(*page, *size, *access) }
         _ => false,
     }
 }

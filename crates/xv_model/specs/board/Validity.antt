@@ -3,7 +3,7 @@ use Rattle.std.specs.Prelude.{ℕ, ◌==◌, ◌+◌, ◌*◌, ◌^◌, ◌%◌,
 use Rattle.xv_base.specs.Limits.{ends_per_processor}
 use Rattle.xv_model.specs.declared.hypercalls.TheConstants.{H_INT_SET_SOURCE_CONFIG}
 use Rattle.xv_model.specs.declared.pages.TheConstants.{END_PAGES}
-use Rattle.xv_model.specs.declared.tima.TheConstants.{TM_HV_PAGE, TM_OS_PAGE, TM_QW1_OS, TM_OS_CPPR, TM_OS_CAM, TM_ACKNOWLEDGE, TM_SET_PENDING, TM_PULL_CONTEXT, CAM_VALID, CAM_FIRST}
+use Rattle.xv_model.specs.declared.tima.TheConstants.{TM_PAGES}
 use Rattle.xv_model.specs.declared.board.Board.{Board}
 use Rattle.xv_model.specs.declared.operations.Access.{Access}
 use Rattle.xv_model.specs.declared.operations.Access.TheVariants.{Load, Store}
@@ -14,6 +14,7 @@ use Rattle.xv_model.specs.declared.operations.Op.{Op}
 use Rattle.xv_model.specs.declared.operations.Op.TheVariants as op
 use Rattle.xv_model.specs.board.Boards.{is_level, source_pages}
 use Rattle.xv_model.specs.end.Flags.{is_valid, enqueues, escalates}
+use Rattle.xv_model.specs.processor.RingOps.{is_size}
 
 -- whether a source has an operation, a level source or not: a pair that is set is one, and only a level source has a line
 abbrev pub has_op : Bool → PqOp → Bool
@@ -84,27 +85,10 @@ has_processor b v = nat_lt v b.limits.processors
 abbrev pub has_thread : Board → ℕ → Bool
 has_thread b t = nat_lt t b.limits.threads
 
--- whether a value is the CAM word of a processor of the board, with its valid bit
-abbrev pub is_cam_word : Board → ℕ → Bool
-is_cam_word b value = nat_le (CAM_VALID + CAM_FIRST) value && nat_lt value (CAM_VALID + CAM_FIRST + b.limits.processors)
-
--- whether a load from the TIMA is one that is built: the registers of the OS ring, an acknowledgement, a pull
-abbrev pub has_tima_load : ℕ → ℕ → ℕ → Bool
-has_tima_load page offset size =
-    ((page == TM_OS_PAGE) && ((offset == TM_QW1_OS) && (size == 8)))
-    || (((page == TM_OS_PAGE) && ((offset == TM_ACKNOWLEDGE) && (size == 2)))
-    || ((page == TM_HV_PAGE) && ((offset == TM_PULL_CONTEXT) && (size == 4))))
-
--- whether a store to it is one: CPPR, a priority that is made pending, a push
-abbrev pub has_tima_store : Board → ℕ → ℕ → ℕ → ℕ → Bool
-has_tima_store b page offset size value =
-    ((page == TM_OS_PAGE) && (((offset == TM_OS_CPPR) || (offset == TM_SET_PENDING)) && ((size == 1) && nat_lt value (2 ^ 8))))
-    || ((page == TM_HV_PAGE) && ((offset == TM_OS_CAM) && ((size == 4) && is_cam_word b value)))
-
--- whether an access to it is one
-abbrev pub has_access : Board → ℕ → ℕ → ℕ → Access → Bool
-has_access b page offset size Load = has_tima_load page offset size
-has_access b page offset size (Store value) = has_tima_store b page offset size value
+-- whether there is an access of so many bytes to a page of the TIMA; what is stored has no more bytes
+abbrev pub has_access : ℕ → ℕ → Access → Bool
+has_access page size Load = nat_lt page TM_PAGES && is_size size
+has_access page size (Store value) = nat_lt page TM_PAGES && (is_size size && nat_lt value (2 ^ (8 * size)))
 
 -- whether an operation is built, and each of its numbers is in range
 abbrev pub valid : Board → Op → Bool
@@ -119,7 +103,7 @@ valid b (op.Quiet s) = nat_lt s b.limits.sources
 valid b (op.Connect v) = has_processor b v
 valid b (op.Restore v t) = has_processor b v && has_thread b t
 valid b (op.Save v) = has_processor b v
-valid b (op.Tima t page offset size access) = has_thread b t && has_access b page offset size access
+valid b (op.Tima t page offset size access) = has_thread b t && has_access page size access
 valid b (op.Read e) = nat_lt e (end_count b)
 valid b (op.Peek addr) = true
 valid b (op.Zero addr len) = true

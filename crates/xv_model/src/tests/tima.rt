@@ -1,4 +1,5 @@
-//! Which accesses to the TIMA are valid: six are, and none beside them.
+//! Which accesses to the TIMA are valid: those on its four pages, of 1, 2, 4 or 8 bytes, wherever they are; and the
+//! value of a store has no more bytes than the store.
 
 use crate::board::Board;
 use crate::operations::{Access, Op};
@@ -37,110 +38,45 @@ fn on_thread(board: &Board, t: u32, page: u8, offset: u16, size: u8, access: Acc
 }
 
 #[test]
-fn loads_of_the_ring(rt: HostRuntime) {
+fn accesses_by_page(rt: HostRuntime) {
+    assert!(rt; loads(0, 0x10, 8));
     assert!(rt; loads(2, 0x10, 8));
-    assert!(rt; !loads(0, 0x10, 8));
-    assert!(rt; !loads(1, 0x10, 8));
-    assert!(rt; !loads(3, 0x10, 8));
-    assert!(rt; !loads(2, 0x0f, 8));
-    assert!(rt; !loads(2, 0x11, 8));
-    assert!(rt; !loads(2, 0x10, 7));
-    assert!(rt; !loads(2, 0x10, 9));
-    assert!(rt; !loads(2, 0x10, 4));
-    assert!(rt; !loads(2, 0x10, 0));
-    assert!(rt; !stores(2, 0x10, 8, 0));
+    assert!(rt; loads(3, 0x10, 8));
+    assert!(rt; stores(3, 0x11, 1, 7));
+    assert!(rt; !loads(4, 0x10, 8));
+    assert!(rt; !stores(4, 0x11, 1, 7));
+    assert!(rt; !loads(u8::MAX, 0x10, 8));
 }
 
 #[test]
-fn loads_that_acknowledge(rt: HostRuntime) {
-    assert!(rt; loads(2, 0x810, 2));
-    assert!(rt; !loads(1, 0x810, 2));
-    assert!(rt; !loads(3, 0x810, 2));
-    assert!(rt; !loads(2, 0x80f, 2));
-    assert!(rt; !loads(2, 0x811, 2));
-    assert!(rt; !loads(2, 0x10, 2));
-    assert!(rt; !loads(2, 0x810, 1));
-    assert!(rt; !loads(2, 0x810, 3));
-    assert!(rt; !loads(2, 0x810, 8));
-    assert!(rt; !stores(2, 0x810, 2, 0));
+fn accesses_by_offset(rt: HostRuntime) {
+    assert!(rt; loads(1, 0, 1));
+    assert!(rt; loads(1, 0x0f, 8));
+    assert!(rt; stores(1, 0x819, 4, 0));
+    assert!(rt; stores(1, u16::MAX, 1, 0));
 }
 
 #[test]
-fn loads_that_pull(rt: HostRuntime) {
-    assert!(rt; loads(1, 0x818, 4));
-    assert!(rt; !loads(0, 0x818, 4));
-    assert!(rt; !loads(2, 0x818, 4));
-    assert!(rt; !loads(1, 0x817, 4));
-    assert!(rt; !loads(1, 0x819, 4));
-    assert!(rt; !loads(1, 0x18, 4));
-    assert!(rt; !loads(1, 0x818, 3));
-    assert!(rt; !loads(1, 0x818, 5));
-    assert!(rt; !loads(1, 0x818, 8));
-    assert!(rt; !stores(1, 0x818, 4, 0));
+fn accesses_by_size(rt: HostRuntime) {
+    for size in [1u8, 2, 4, 8] {
+        assert!(rt; loads(2, 0x10, size));
+        assert!(rt; stores(2, 0x10, size, 0xff));
+    }
+    for size in [0u8, 3, 5, 6, 7, 9, 16, u8::MAX] {
+        assert!(rt; !loads(2, 0x10, size));
+        assert!(rt; !stores(2, 0x10, size, 0));
+    }
 }
 
 #[test]
-fn stores_of_cppr(rt: HostRuntime) {
-    assert!(rt; stores(2, 0x11, 1, 0));
-    assert!(rt; stores(2, 0x11, 1, 7));
-    assert!(rt; stores(2, 0x11, 1, 0xff));
+fn stores_by_value(rt: HostRuntime) {
     assert!(rt; !stores(2, 0x11, 1, 0x100));
     assert!(rt; !stores(2, 0x11, 1, u64::MAX));
-    assert!(rt; !stores(1, 0x11, 1, 7));
-    assert!(rt; !stores(3, 0x11, 1, 7));
-    assert!(rt; !stores(2, 0x10, 1, 7));
-    assert!(rt; !stores(2, 0x12, 1, 7));
-    assert!(rt; !stores(2, 0x11, 0, 7));
-    assert!(rt; !stores(2, 0x11, 2, 7));
-    assert!(rt; !loads(2, 0x11, 1));
-}
-
-#[test]
-fn stores_that_make_a_priority_pending(rt: HostRuntime) {
-    assert!(rt; stores(2, 0x812, 1, 0));
-    assert!(rt; stores(2, 0x812, 1, 7));
-    // also one that is no priority: it makes nothing pending
-    assert!(rt; stores(2, 0x812, 1, 8));
-    assert!(rt; stores(2, 0x812, 1, 0xff));
-    assert!(rt; !stores(2, 0x812, 1, 0x100));
-    assert!(rt; !stores(1, 0x812, 1, 5));
-    assert!(rt; !stores(3, 0x812, 1, 5));
-    assert!(rt; !stores(2, 0x811, 1, 5));
-    assert!(rt; !stores(2, 0x813, 1, 5));
-    assert!(rt; !stores(2, 0x812, 0, 5));
-    assert!(rt; !stores(2, 0x812, 2, 5));
-    assert!(rt; !loads(2, 0x812, 1));
-}
-
-#[test]
-fn stores_that_push(rt: HostRuntime) {
-    assert!(rt; stores(1, 0x18, 4, 0x8000_0400));
-    assert!(rt; !stores(0, 0x18, 4, 0x8000_0400));
-    assert!(rt; !stores(2, 0x18, 4, 0x8000_0400));
-    assert!(rt; !stores(1, 0x17, 4, 0x8000_0400));
-    assert!(rt; !stores(1, 0x19, 4, 0x8000_0400));
-    assert!(rt; !stores(1, 0x818, 4, 0x8000_0400));
-    assert!(rt; !stores(1, 0x18, 3, 0x8000_0400));
-    assert!(rt; !stores(1, 0x18, 5, 0x8000_0400));
-    assert!(rt; !stores(1, 0x18, 8, 0x8000_0400));
-    assert!(rt; !loads(1, 0x18, 4));
-}
-
-#[test]
-fn cam_words(rt: HostRuntime) {
-    let pushes = |value: u64| stores(1, 0x18, 4, value);
-    assert!(rt; pushes(0x8000_0400));
-    assert!(rt; pushes(0x8000_0401));
-    assert!(rt; !pushes(0x8000_03ff));
-    assert!(rt; !pushes(0x8000_0402));
-    // without the valid bit, with no more than it, and with a bit beyond the word
-    assert!(rt; !pushes(0x400));
-    assert!(rt; !pushes(0x401));
-    assert!(rt; !pushes(0x8000_0000));
-    assert!(rt; !pushes(0x8000_0001));
-    assert!(rt; !pushes(0x1_8000_0400));
-    assert!(rt; !pushes(0));
-    assert!(rt; !pushes(u64::MAX));
+    assert!(rt; stores(2, 0x11, 2, 0xffff));
+    assert!(rt; !stores(2, 0x11, 2, 0x1_0000));
+    assert!(rt; stores(1, 0x18, 4, 0xffff_ffff));
+    assert!(rt; !stores(1, 0x18, 4, 0x1_8000_0400));
+    assert!(rt; stores(2, 0x11, 8, u64::MAX));
 }
 
 #[test]
@@ -154,25 +90,11 @@ fn accesses_by_thread(rt: HostRuntime) {
         },
         ..small_board()
     };
-    let load = |t: u32, page: u8, offset: u16, size: u8| {
-        on_thread(&board, t, page, offset, size, Access::Load)
-    };
-    let store = |t: u32, page: u8, offset: u16, size: u8, value: u64| {
-        on_thread(&board, t, page, offset, size, Access::Store { value })
-    };
-    assert!(rt; load(31, 2, 0x10, 8));
-    assert!(rt; !load(32, 2, 0x10, 8));
-    assert!(rt; load(31, 2, 0x810, 2));
-    assert!(rt; !load(32, 2, 0x810, 2));
-    assert!(rt; load(31, 1, 0x818, 4));
-    assert!(rt; !load(32, 1, 0x818, 4));
-    assert!(rt; store(31, 2, 0x11, 1, 7));
-    assert!(rt; !store(32, 2, 0x11, 1, 7));
-    assert!(rt; store(31, 2, 0x812, 1, 7));
-    assert!(rt; !store(32, 2, 0x812, 1, 7));
-    // the last of 64 processors is pushed on the last of 32 threads
-    assert!(rt; store(31, 1, 0x18, 4, 0x8000_043f));
-    assert!(rt; !store(31, 1, 0x18, 4, 0x8000_0440));
-    assert!(rt; !store(32, 1, 0x18, 4, 0x8000_043f));
-    assert!(rt; !load(u32::MAX, 2, 0x810, 2));
+    let load = |t: u32| on_thread(&board, t, 2, 0x10, 8, Access::Load);
+    let store = |t: u32| on_thread(&board, t, 1, 0x18, 4, Access::Store { value: 0 });
+    assert!(rt; load(31));
+    assert!(rt; store(31));
+    assert!(rt; !load(32));
+    assert!(rt; !store(32));
+    assert!(rt; !load(u32::MAX));
 }
