@@ -1,5 +1,5 @@
 -- Each script has one account.
-use Rattle.std.proofs.Common.{ℕ, ◌≡◌, Bool, true, false, List, [], ◌∷◌, map, All, Option, Some, None, Ok, Err, IfOk, refl, sym, ◌∙◌, subst}
+use Rattle.std.proofs.Common.{ℕ, ◌≡◌, Bool, true, false, List, [], ◌∷◌, map, All, Option, Some, None, Ok, Err, IfOk, refl, sym, ◌∙◌, subst, rules}
 use Rattle.std.proofs.lemmas.List.Elements.{All-nil, All-cons, All-map}
 use Rattle.xv_base.specs.Limits.{byte_limit}
 use Rattle.xv_base.specs.Lines.{lines_within, are_too_many}
@@ -17,12 +17,13 @@ use Rattle.board_script.specs.declared.work.Work.{Work as AWork}
 use Rattle.board_script.specs.declared.stage.Turn.{Turn}
 use Rattle.board_script.specs.declared.stage.Turn.TheVariants as turns
 use Rattle.board_script.specs.declared.stage.Stage.{Stage}
-use Rattle.board_script.specs.declared.stage.Stage.TheVariants.{Header, Work, Ended}
+use Rattle.board_script.specs.declared.stage.Stage.TheVariants.{Header, Work, Started, Ended}
 use Rattle.board_script.specs.Lines.{Reading, said_of, IsWork, IsHeaderSaid, IsSaidAt}
-use Rattle.board_script.specs.Stage.{stage_after, board_after}
+use Rattle.board_script.specs.Stage.{stage_after, board_after, first_board, IsBoardAt}
 use Rattle.board_script.specs.Parser.{Parsing, new_parsing, answer_by, read_by, parsing_by, parsing_from, finished_by, board_by}
 use Rattle.board_script.specs.Script.{Script, WorkLine, line_for, work_with, ended_by, after_line, script_from, script_of, work_in, board_in, IsAccountOn, EachHasAccount, OneOfEach}
 use Rattle.board_script.proofs.Fitting.{fits}
+use Rattle.board_script.proofs.Staying.{stays}
 use Rattle.board_script.proofs.WorkLines.{ends}
 
 -- these are work lines on a board
@@ -63,8 +64,13 @@ step (Header turn) b say.Go work f a = none_is (board_after (Header turn) say.Go
 step (Header turn) b (say.Work actor w) work f a = absurd (no_work turn b actor w f)
 step (Header turn) b it work f a = a
 step Work b say.End work f a = a
+step Work b say.Start work f a = a
 step Work b (say.Work actor w) work f a = All-cons (λ w. IsWork b w.actor w.work) (record { actor = actor; work = w }) work f a
 step Work b it work f a = a
+step Started b say.End work f a = a
+step Started b say.Start work f a = a
+step Started b (say.Work actor w) work f a = All-cons (λ w. IsWork b w.actor w.work) (record { actor = actor; work = w }) work f a
+step Started b it work f a = a
 step Ended b say.Nothing work f a = a
 step Ended b _ work f a = absurd f
 
@@ -72,6 +78,7 @@ step Ended b _ work f a = absurd f
 met : (stage : Stage) (b : Board) (work : List WorkLine) → AreWorkAt stage b work → AreWorkOn (board_by stage b) work
 met (Header turn) b work a = tt
 met Work b work a = a
+met Started b work a = a
 met Ended b work a = a
 
 at_end : (f : Option ScriptFault) (stage : Stage) (b : Board) (n : ℕ) (work : List WorkLine) → AreWorkAt stage b work →
@@ -79,29 +86,35 @@ at_end : (f : Option ScriptFault) (stage : Stage) (b : Board) (n : ℕ) (work : 
 at_end (Some fault) stage b n work a = met stage b work a
 at_end None (Header turn) b n work a = tt
 at_end None Work b n work a = a
+at_end None Started b n work a = a
 at_end None Ended b n work a = a
 
 accepted : (stage : Stage) (b : Board) (work : List WorkLine) → IsSaidAt stage b say.End → AreWorkAt stage b work → AreWork b work
 accepted (Header turn) b work f a = absurd (no_end turn b f)
 accepted Work b work f a = a
+accepted Started b work f a = a
 accepted Ended b work f a = absurd f
 
-read_is : (p : Parsing) (r : Reading) (work : List WorkLine) (next : Parsing → Said → Script) → IfOk r (IsSaidAt p.stage p.board) → AreWorkAt p.stage p.board work →
-    ((q : Parsing) (it : Said) → AreWorkAt q.stage q.board (work_with it work) → AreWorkIn (next q it)) → AreWorkIn (after_line (answer_by p r) p work (next (parsing_by p r)))
-read_is p (Err m) work next f a h = met p.stage p.board work a
-read_is p (Ok say.End) work next f a h = accepted p.stage p.board work f a
-read_is p (Ok it) work next f a h = h (parsing_by p (Ok it)) it (step p.stage p.board it work f a)
+-- what goes on behind a line that a parser has read, whose board is one
+abbrev GoesOn : List WorkLine → (Parsing → Said → Script) → Type 0
+GoesOn work next = (q : Parsing) (it : Said) → IsBoardAt q.stage q.board → AreWorkAt q.stage q.board (work_with it work) → AreWorkIn (next q it)
 
-line_is : (f : Option ScriptFault) (p : Parsing) (l : List ℕ) (work : List WorkLine) (next : Parsing → Said → Script) → AreWorkAt p.stage p.board work →
-    ((q : Parsing) (it : Said) → AreWorkAt q.stage q.board (work_with it work) → AreWorkIn (next q it)) → AreWorkIn (after_line (read_by f p l) p work (next (parsing_from f p l)))
-line_is (Some fault) p l work next a h = met p.stage p.board work a
-line_is None p l work next a h = read_is p (said_of p.stage p.board l) work next (fits p.stage p.board l) a h
+read_is : (p : Parsing) (l : List ℕ) (r : Reading) (work : List WorkLine) (next : Parsing → Said → Script) → IsBoardAt p.stage p.board → IfOk r (IsSaidAt p.stage p.board) → AreWorkAt p.stage p.board work →
+    GoesOn work next → AreWorkIn (after_line (answer_by p l r) p work (next (parsing_by p l r)))
+read_is p l (Err m) work next is f a h = met p.stage p.board work a
+read_is p l (Ok say.End) work next is f a h = accepted p.stage p.board work f a
+read_is p l (Ok it) work next is f a h = h (parsing_by p l (Ok it)) it (stays p.stage p.board it is f) (step p.stage p.board it work f a)
+
+line_is : (f : Option ScriptFault) (p : Parsing) (l : List ℕ) (work : List WorkLine) (next : Parsing → Said → Script) → IsBoardAt p.stage p.board → AreWorkAt p.stage p.board work →
+    GoesOn work next → AreWorkIn (after_line (read_by f p l) p work (next (parsing_from f p l)))
+line_is (Some fault) p l work next is a h = met p.stage p.board work a
+line_is None p l work next is a h = read_is p l (said_of p.stage p.board l) work next is (fits p.stage p.board l is.is_board) a h
 
 -- the work lines of a script are work on its board
-pub are_work : (p : Parsing) (work : List WorkLine) (ls : List (List ℕ)) (t : Bool) → AreWorkAt p.stage p.board work → AreWorkIn (script_from p work ls t)
-are_work p work [] true a = met p.stage p.board work a
-are_work p work [] false a = at_end p.fault p.stage p.board p.lines work a
-are_work p work (l ∷ ls) t a = line_is p.fault p l work (λ q it. script_from q (work_with it work) ls t) a (λ q it k. are_work q (work_with it work) ls t k)
+pub are_work : (p : Parsing) (work : List WorkLine) (ls : List (List ℕ)) (t : Bool) → IsBoardAt p.stage p.board → AreWorkAt p.stage p.board work → AreWorkIn (script_from p work ls t)
+are_work p work [] true is a = met p.stage p.board work a
+are_work p work [] false is a = at_end p.fault p.stage p.board p.lines work a
+are_work p work (l ∷ ls) t is a = line_is p.fault p l work (λ q it. script_from q (work_with it work) ls t) is a (λ q it is k. are_work q (work_with it work) ls t is k)
 
 -- work lines on a board have an account
 has_on : (b : Option Board) (work : List WorkLine) → AreWorkOn b work → (h : List Entry) × IsAccountOn b work h
@@ -111,9 +124,13 @@ has_on (Some b) work a =
     let (h, follows, legal) = has_account (start b) (map line_for work) (All-map (Ends (start b)) line_for work each) in
     (h, (follows, legal))
 
+-- the board before the first line is one
+first_is : IsBoardAt (Header turns.Board) first_board
+first_is = search rules
+
 pub each_has_account : EachHasAccount
 each_has_account bytes =
-    has_on (board_in (script_of bytes)) (work_in (script_of bytes)) (are_work new_parsing [] (lines_within byte_limit bytes) (are_too_many byte_limit bytes) refl)
+    has_on (board_in (script_of bytes)) (work_in (script_of bytes)) (are_work new_parsing [] (lines_within byte_limit bytes) (are_too_many byte_limit bytes) first_is refl)
 
 one_on : (b : Option Board) (work : List WorkLine) (h g : List Entry) → IsAccountOn b work h → IsAccountOn b work g → h ≡ g
 one_on None work h g a k = a ∙ sym k

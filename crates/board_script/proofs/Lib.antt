@@ -1,9 +1,11 @@
 pub mod Accounts
 pub mod Eights
+pub mod Grammars
 pub mod Fitting
 pub mod Passing
 pub mod WorkLines
-pub mod LongLines
 pub mod Reading
 pub mod Staying
 pub mod Resting
+pub mod Walks
+pub mod HeaderLines

@@ -1,14 +1,11 @@
 -- Reading a script line after line.
-use Rattle.std.proofs.Common.{Option, Some, None, ℕ, ◌≡◌, Bool, true, false, List, [], ◌∷◌, ◌++◌, Ok, Err, refl, sym, ◌∙◌, ap, append_assoc, subst}
+use Rattle.std.proofs.Common.{Option, None, ℕ, ◌≡◌, Bool, true, false, List, [], ◌∷◌, ◌++◌, Ok, Err, refl, sym, ◌∙◌, ap, append_assoc}
 use Rattle.std.specs.declared.result.Result.{Result}
 use Rattle.board_script.specs.declared.faults.ScriptFault.{ScriptFault}
 use Rattle.board_script.specs.declared.lines.Said.{Said}
 use Rattle.board_script.specs.declared.lines.Said.TheVariants as say
-use Rattle.board_script.specs.declared.stage.Stage.TheVariants.{Work}
-use Rattle.board_script.specs.Lines.{Reading, said_of}
-use Rattle.board_script.specs.Stage.{stage_after, board_after}
-use Rattle.board_script.specs.Parser.{Parsing, read_of, read_by, answer_by, parsing_after, parsing_by, parsing_from, finished, finished_by, board_by}
-use Rattle.board_script.specs.Script.{Script, Accepted, Refused, TooLong, SoFar, WorkLine, so_far, work_with, ended_by, after_line, script_from, so_far_after, so_far_from, work_in, board_in}
+use Rattle.board_script.specs.Parser.{Parsing, read_of, parsing_after, finished}
+use Rattle.board_script.specs.Script.{Script, Accepted, Refused, TooLong, SoFar, WorkLine, so_far, work_with, ended_by, after_line, script_from, so_far_after, so_far_from, work_in}
 
 -- a line isn't the end of a script
 abbrev pub IsNotEnd : Said → Type 0
@@ -23,6 +20,7 @@ goes_on (say.Level span) p work next n = refl
 goes_on (say.Unclaimed span) p work next n = refl
 goes_on (say.Unconnected span) p work next n = refl
 goes_on say.Go p work next n = refl
+goes_on say.Start p work next n = refl
 goes_on say.End p work next n = absurd n
 goes_on (say.Work actor w) p work next n = refl
 
@@ -70,6 +68,7 @@ goes_on_so_far (say.Level span) next n = refl
 goes_on_so_far (say.Unclaimed span) next n = refl
 goes_on_so_far (say.Unconnected span) next n = refl
 goes_on_so_far say.Go next n = refl
+goes_on_so_far say.Start next n = refl
 goes_on_so_far say.End next n = absurd n
 goes_on_so_far (say.Work actor w) next n = refl
 
@@ -124,25 +123,3 @@ pub more_from : (p : Parsing) (work : List WorkLine) (ls : List (List ℕ)) (t :
 more_from p work [] true = same_work work
 more_from p work [] false = more_ended (finished p) p work
 more_from p work (l ∷ ls) t = more_after (read_of p l) p work _ (λ it. more_from (parsing_after p l) (work_with it work) ls t)
-
-board_ended : (f : Option ScriptFault) (p : Parsing) (work : List WorkLine) → p.stage ≡ Work → board_in (ended_by (finished_by f p.stage p.lines) p work) ≡ Some p.board
-board_ended (Some fault) p work e = ap (λ s. board_by s p.board) e
-board_ended None p work e = subst (λ s. board_in (ended_by (finished_by None s p.lines) p work) ≡ Some p.board) (sym e) refl
-
-board_read : (p : Parsing) (r : Reading) (work : List WorkLine) (next : Parsing → Said → Script) → p.stage ≡ Work →
-    ((q : Parsing) (it : Said) → q.stage ≡ Work → board_in (next q it) ≡ Some q.board) → board_in (after_line (answer_by p r) p work (next (parsing_by p r))) ≡ Some p.board
-board_read p (Err m) work next e h = ap (λ s. board_by s p.board) e
-board_read p (Ok say.End) work next e h = refl
-board_read p (Ok it) work next e h =
-    h (parsing_by p (Ok it)) it (ap (λ s. stage_after s it) e) ∙ ap (λ s. Some (board_after s it p.board)) e
-
-board_line : (f : Option ScriptFault) (p : Parsing) (l : List ℕ) (work : List WorkLine) (next : Parsing → Said → Script) → p.stage ≡ Work →
-    ((q : Parsing) (it : Said) → q.stage ≡ Work → board_in (next q it) ≡ Some q.board) → board_in (after_line (read_by f p l) p work (next (parsing_from f p l))) ≡ Some p.board
-board_line (Some fault) p l work next e h = ap (λ s. board_by s p.board) e
-board_line None p l work next e h = board_read p (said_of p.stage p.board l) work next e h
-
--- whatever follows the header, the board of a script is that of its header
-pub board_from : (p : Parsing) (work : List WorkLine) (ls : List (List ℕ)) (t : Bool) → p.stage ≡ Work → board_in (script_from p work ls t) ≡ Some p.board
-board_from p work [] true e = ap (λ s. board_by s p.board) e
-board_from p work [] false e = board_ended p.fault p work e
-board_from p work (l ∷ ls) t e = board_line p.fault p l work (λ q it. script_from q (work_with it work) ls t) e (λ q it k. board_from q (work_with it work) ls t k)

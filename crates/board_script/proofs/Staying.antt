@@ -8,7 +8,7 @@ use Rattle.xv_model.specs.board.Boards.{AreBelow}
 use Rattle.board_script.specs.declared.stage.Turn.{Turn}
 use Rattle.board_script.specs.declared.stage.Turn.TheVariants as turns
 use Rattle.board_script.specs.declared.stage.Stage.{Stage}
-use Rattle.board_script.specs.declared.stage.Stage.TheVariants.{Header, Work, Ended}
+use Rattle.board_script.specs.declared.stage.Stage.TheVariants.{Header, Work, Started, Ended}
 use Rattle.board_script.specs.declared.lines.Said.{Said}
 use Rattle.board_script.specs.declared.lines.Said.TheVariants as said
 use Rattle.board_script.specs.Lines.{IsHeaderSaid, IsSaidAt}
@@ -86,7 +86,11 @@ nothing turns.Board b s = s
 -- the board after a line is one
 pub stays : (stage : Stage) (b : Board) (it : Said) → IsBoardAt stage b → IsSaidAt stage b it → IsBoardAt (stage_after stage it) (board_after stage it b)
 stays Work b said.End s f = record { is_board = s.is_board; ranges = tt }
+stays Work b said.Start s f = record { is_board = s.is_board; ranges = tt }
 stays Work b it s f = s
+stays Started b said.End s f = record { is_board = s.is_board; ranges = tt }
+stays Started b said.Start s f = record { is_board = s.is_board; ranges = tt }
+stays Started b it s f = s
 stays Ended b it s f = s
 stays (Header turn) b said.Nothing s f = nothing turn b s
 stays (Header turn) b it s f = header_stays turn b it s f

@@ -412,6 +412,17 @@ first_falls old new last Knows none same w z before [] at known l b v =
     omega (arith, less, same_left new old x.outcome (begun_same old new same)))
 first_falls old new last Knows none same w z before (y ∷ part) at known l b v = cc
 
+-- where it has begun its steps are valid too
+pub begins_well : (w now : Work) (b : Board) → now ≡ at_place 0 w → HasValidSteps b w → HasValidSteps b now
+begins_well w now b same v = subst (HasValidSteps b) (sym same) (by w.then v)
+  where
+    by : (t : Then) → WithThen b w.first t → WithThen b w.first (then_from 0 t)
+    by Done v = v
+    by (Route s) v = v
+    by Take v = v
+    by (Sync s) v = v
+    by (Drain from sources) v = v
+
 -- each later operation of a line brings its load down
 pub next_falls : (old new : Work) (m : Option Op) (last : Option Outcome) (u : Outcome) (Knows : Start → List Entry → Type 0) → last ≡ Some u → ((z : Start) (h : List Entry) → Knows z h → m ≡ op_from_place old.then z h u) → new ≡ at_place (place_of new.then) old →
     IfSome m (λ o. (w : Work) (z : Start) (before part : List Entry) → IsAt old w z before part → Knows z (part ++ before) → IsLast part last → (b : Board) → HasValidSteps b old → Falls old new last z (part ++ before) o)

@@ -3,6 +3,7 @@ use Rattle.std.specs.Prelude.{ℕ, ◌+◌, ◌-◌, List, length, codes}
 use Rattle.board_script.specs.declared.faults.Cause.{Cause}
 use Rattle.board_script.specs.declared.faults.Cause.TheVariants.{LongLine, BadByte, WrongPlace, UnknownWord, MissingWord, ExtraWord, BadNumber, OutOfRange, NotLevel, BadEnd, NoGo, NotInLive, TooManyLines, TooManyForwards, NotBuilt}
 use Rattle.board_script.specs.declared.faults.Misread.{Misread}
+use Rattle.board_script.specs.declared.faults.ScriptFault.{ScriptFault}
 
 -- the name of a cause
 abbrev pub cause_text : Cause → List ℕ
@@ -25,3 +26,7 @@ cause_text NotBuilt = codes "not-built"
 -- the byte, from 1, at which a line is refused
 abbrev pub place : List ℕ → Misread → ℕ
 place line m = length line - m.left + 1
+
+-- the fault of a line of this number
+abbrev pub fault_of : ℕ → List ℕ → Misread → ScriptFault
+fault_of n line m = record { line = n; byte = place line m; cause = m.cause }

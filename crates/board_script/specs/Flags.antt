@@ -1,9 +1,7 @@
 -- The flags of an END, as a line has them.
 use Rattle.std.specs.Prelude.{ℕ, ◌+◌, ◌==◌, nat_lt, if◌then◌else◌, List, [], ◌∷◌, Option, Some, None, codes}
-use Rattle.std.specs.declared.result.Result.{Result}
 use Rattle.xv_model.specs.declared.operations.EndFlags.{EndFlags}
-use Rattle.board_script.specs.declared.faults.Misread.{Misread}
-use Rattle.board_script.specs.Words.{word_of, is_empty, is_word, value_at}
+use Rattle.board_script.specs.Words.{is_empty, is_word}
 
 -- the bit of a letter: v, q, n, b, e, u or s
 abbrev pub bit_of : ℕ → Option ℕ
@@ -32,10 +30,6 @@ abbrev pub flags_of : List ℕ → Option ℕ
 flags_of word =
     if is_word (codes "-") word then Some 0
     else (if is_empty word then None else flags_from (Some 0) word)
-
--- reads flags
-abbrev pub flags_at : List ℕ → Result ℕ Misread
-flags_at rest = value_at (flags_of (word_of rest)) rest
 
 -- the flags of an END with these bits
 abbrev pub of_bits : ℕ → EndFlags

@@ -1,94 +1,112 @@
--- Lines of the header.
-use Rattle.std.specs.Prelude.{ℕ, ◌==◌, ◌+◌, ◌&&◌, nat_lt, Bool, false, if◌then◌else◌, List, codes, Option, Some, None, Ok, Err}
+-- The table of the lines of the header: by the turn, what may come, and the words after it.
+use Rattle.std.specs.Prelude.{ℕ, ◌==◌, ◌+◌, nat_lt, Bool, true, if◌then◌else◌, List, [], ◌∷◌, codes, Option, Some, None, Ok}
 use Rattle.std.specs.declared.result.Result.{Result}
 use Rattle.xv_base.specs.Limits.{most_sources, most_processors, most_threads, most_actors, most_ram_mib, most_ranges}
 use Rattle.xv_model.specs.declared.board.Board.{Board}
 use Rattle.xv_model.specs.declared.board.Span.{Span}
 use Rattle.xv_model.specs.declared.board.Spans.{Spans}
+use Rattle.board_script.specs.declared.faults.Cause.TheVariants.{OutOfRange}
 use Rattle.board_script.specs.declared.faults.Misread.{Misread}
 use Rattle.board_script.specs.declared.stage.Turn.{Turn}
 use Rattle.board_script.specs.declared.stage.Turn.TheVariants as turns
 use Rattle.board_script.specs.declared.lines.Said.{Said}
 use Rattle.board_script.specs.declared.lines.Said.TheVariants as said
-use Rattle.board_script.specs.Words.{word_of, rest_of, is_word, misread_at, name_at, then_read, then_at, at_end}
-use Rattle.board_script.specs.Numbers.{bounded_at}
+use Rattle.board_script.specs.Words.{word_of, rest_of, is_word}
+use Rattle.board_script.specs.FirstWords.{out_of_turn}
+use Rattle.board_script.specs.Grammar.{Grammar, Number, Stop, Word, refused_at, walk}
 
--- a line of the header that has one number: its name, and the numbers from low to most
-pub record Count : Type 0 where
+-- a line of the header: its name, whether there is room for one more of its kind, and the words after the name
+pub record HeaderRow : Type 0 where
   pub name : List ℕ
-  pub low : ℕ
-  pub most : ℕ
+  pub room : Bool
+  pub words : Grammar Said
 
--- what a turn of the header counts, where it does
-abbrev pub count_of : Turn → Option Count
-count_of turns.Board = Some (record { name = codes "board"; low = 1; most = 1 })
-count_of turns.Sources = Some (record { name = codes "sources"; low = 1; most = most_sources })
-count_of turns.Processors = Some (record { name = codes "processors"; low = 1; most = most_processors })
-count_of turns.Threads = Some (record { name = codes "threads"; low = 1; most = most_threads })
-count_of turns.Ram = Some (record { name = codes "ram"; low = 0; most = most_ram_mib })
-count_of turns.Actors = Some (record { name = codes "actors"; low = 1; most = most_actors })
-count_of turns.Esb = None
-count_of turns.Level = None
-count_of turns.Unclaimed = None
-count_of turns.Unconnected = None
+-- a number from low to most
+abbrev pub number_words : ℕ → ℕ → Grammar Said
+number_words low most = Word (Number low (most + 1)) (λ n. Stop (Ok (said.Number n)))
 
--- a line of a name and a number from low to most
-abbrev pub number_line_of : List ℕ → ℕ → ℕ → List ℕ → Result Said Misread
-number_line_of name low most rest =
-    then_at (name_at name) rest (λ u rest.
-    then_at (bounded_at low (most + 1)) rest (λ n rest. at_end rest (said.Number n)))
+abbrev pub number_row : List ℕ → ℕ → ℕ → HeaderRow
+number_row name low most = record { name = name; room = true; words = number_words low most }
 
--- the line of the pages of a source: how many, and whether a store is an EOI
-abbrev pub pages_line_of : List ℕ → Result Said Misread
-pages_line_of rest =
-    then_at (name_at (codes "esb")) rest (λ u rest.
-    then_at (bounded_at 1 3) rest (λ pages rest.
-    then_at (bounded_at 0 2) rest (λ eoi rest. at_end rest (said.Pages (pages == 2) (eoi == 1)))))
+-- the pages of a source: how many, and whether a store is an EOI
+abbrev pub pages_words : Grammar Said
+pages_words = Word (Number 1 3) (λ pages. Word (Number 0 2) (λ eoi. Stop (Ok (said.Pages (pages == 2) (eoi == 1)))))
 
--- a range of numbers below a limit, the last two words of a line
-abbrev pub range_of : ℕ → List ℕ → Result Span Misread
-range_of limit rest =
-    then_at (bounded_at 0 limit) rest (λ first rest.
-    then_at (bounded_at first limit) rest (λ last rest.
-    at_end rest (record { first = first; last = last })))
+abbrev pub pages_row : HeaderRow
+pages_row = record { name = codes "esb"; room = true; words = pages_words }
 
--- a line of a range of some kind below a limit, by what stands after its name
-abbrev pub range_line_of : ℕ → (Span → Said) → List ℕ → Result Said Misread
-range_line_of limit make rest = then_read (range_of limit rest) (λ span. Ok (make span))
+-- the first word of a line has to be this one
+abbrev pub first_at : List ℕ → List ℕ → Result (Unit {0}) Misread
+first_at name rest = if is_word name (word_of rest) then Ok tt else refused_at (out_of_turn (word_of rest)) rest
 
 -- whether there is room for one more range of a kind
 abbrev pub has_room : Spans → Bool
 has_room spans = nat_lt spans.count most_ranges
 
--- whether a range of level sources may come: before those of other kinds, and where there is room for it
-abbrev pub takes_level : Turn → Board → Bool
-takes_level turns.Level b = has_room b.level
-takes_level _ b = false
+-- the first number of a range below a limit, and the last one
+abbrev pub range_words : {A : Type 0} → ℕ → (Span → A) → Grammar A
+range_words limit make = Word (Number 0 limit) (λ first. Word (Number first limit) (λ last. Stop (Ok (make (record { first = first; last = last })))))
 
--- whether a range of unclaimed sources may come: before those of processors, and where there is room for it
-abbrev pub takes_unclaimed : Turn → Board → Bool
-takes_unclaimed turns.Level b = has_room b.unclaimed
-takes_unclaimed turns.Unclaimed b = has_room b.unclaimed
-takes_unclaimed _ b = false
+-- a range beside those of its kind; without room for it the line is refused at its name
+abbrev pub range_at : List ℕ → Spans → ℕ → List ℕ → Result Span Misread
+range_at at spans limit rest = if has_room spans then walk at (range_words limit (λ span. span)) rest else refused_at OutOfRange at
 
--- a line at the end of the header: a range, where one of its kind may come, or the end
-abbrev pub last_line_of : Turn → Board → List ℕ → Result Said Misread
-last_line_of turn b rest =
-    if is_word (codes "level") (word_of rest) && takes_level turn b then
-    range_line_of b.limits.sources said.Level (rest_of rest)
-    else (if is_word (codes "unclaimed") (word_of rest) && takes_unclaimed turn b then
-    range_line_of b.limits.sources said.Unclaimed (rest_of rest)
-    else (if is_word (codes "go") (word_of rest) then at_end (rest_of rest) said.Go
-    else (if is_word (codes "unconnected") (word_of rest) && has_room b.unconnected then
-    range_line_of b.limits.processors said.Unconnected (rest_of rest)
-    else Err (misread_at rest))))
+-- a line of such a range
+abbrev pub range_row : List ℕ → Spans → ℕ → (Span → Said) → HeaderRow
+range_row name spans limit make = record {
+  name = name;
+  room = has_room spans;
+  words = range_words limit make;
+}
 
--- a line of the header at a turn, by what that counts
-abbrev pub header_by : Option Count → Turn → Board → List ℕ → Result Said Misread
-header_by (Some c) turn b rest = number_line_of c.name c.low c.most rest
-header_by None turns.Esb b rest = pages_line_of rest
-header_by None turn b rest = last_line_of turn b rest
+abbrev pub level_row : Board → HeaderRow
+level_row b = range_row (codes "level") b.level b.limits.sources said.Level
+
+abbrev pub unclaimed_row : Board → HeaderRow
+unclaimed_row b = range_row (codes "unclaimed") b.unclaimed b.limits.sources said.Unclaimed
+
+abbrev pub unconnected_row : Board → HeaderRow
+unconnected_row b = range_row (codes "unconnected") b.unconnected b.limits.processors said.Unconnected
+
+abbrev pub go_row : HeaderRow
+go_row = record { name = codes "go"; room = true; words = Stop (Ok said.Go) }
+
+abbrev pub unconnected_rows : Board → List HeaderRow
+unconnected_rows b = unconnected_row b ∷ go_row ∷ []
+
+abbrev pub unclaimed_rows : Board → List HeaderRow
+unclaimed_rows b = unclaimed_row b ∷ unconnected_rows b
+
+abbrev pub level_rows : Board → List HeaderRow
+level_rows b = level_row b ∷ unclaimed_rows b
+
+-- what may come at the end of the header: ranges of a kind before those of the next one, and the end
+abbrev pub last_rows : Turn → Board → List HeaderRow
+last_rows turns.Level b = level_rows b
+last_rows turns.Unconnected b = unconnected_rows b
+last_rows turn b = unclaimed_rows b
+
+-- what may come at a turn
+abbrev pub header_rows : Turn → Board → List HeaderRow
+header_rows turns.Board b = number_row (codes "board") 1 1 ∷ []
+header_rows turns.Sources b = number_row (codes "sources") 1 most_sources ∷ []
+header_rows turns.Processors b = number_row (codes "processors") 1 most_processors ∷ []
+header_rows turns.Threads b = number_row (codes "threads") 1 most_threads ∷ []
+header_rows turns.Ram b = number_row (codes "ram") 0 most_ram_mib ∷ []
+header_rows turns.Actors b = number_row (codes "actors") 1 most_actors ∷ []
+header_rows turns.Esb b = pages_row ∷ []
+header_rows turn b = last_rows turn b
+
+-- the row of a name
+abbrev pub row_of : List HeaderRow → List ℕ → Option HeaderRow
+row_of [] name = None
+row_of (r ∷ rs) name = if is_word r.name name then Some r else row_of rs name
+
+-- a line of the header, by its row
+abbrev pub header_by : List ℕ → Option HeaderRow → Result Said Misread
+header_by rest (Some r) = if r.room then walk rest r.words (rest_of rest) else refused_at OutOfRange rest
+header_by rest None = refused_at (out_of_turn (word_of rest)) rest
 
 -- a line of the header
 abbrev pub header_of : Turn → Board → List ℕ → Result Said Misread
-header_of turn b rest = header_by (count_of turn) turn b rest
+header_of turn b rest = header_by rest (row_of (header_rows turn b) (word_of rest))

@@ -4,12 +4,10 @@ pub mod Faults
 pub mod Words
 pub mod Numbers
 pub mod Flags
+pub mod Grammar
+pub mod FirstWords
 pub mod Work
-pub mod Sources
-pub mod Pages
-pub mod Memory
-pub mod Processors
-pub mod Configuring
+pub mod Operations
 pub mod Working
 pub mod Header
 pub mod Lines

@@ -1,7 +1,7 @@
 -- What a line says.
-use Rattle.std.specs.Prelude.{ℕ, ◌<◌, ◌≤◌, ◌-◌, nat_lt, if◌then◌else◌, List, [], ◌∷◌, length, Option, Some, None, Ok, Err}
+use Rattle.std.specs.Prelude.{ℕ, ◌<◌, ◌≤◌, ◌-◌, nat_lt, true, false, if◌then◌else◌, List, [], ◌∷◌, length, Ok, Err}
 use Rattle.std.specs.declared.result.Result.{Result}
-use Rattle.xv_base.specs.Limits.{longest_line, most_ranges}
+use Rattle.xv_base.specs.Limits.{longest_line, most_ranges, most_sources, most_processors, most_threads, most_actors, most_ram_mib}
 use Rattle.xv_model.specs.declared.board.Board.{Board}
 use Rattle.xv_model.specs.declared.board.Span.{Span}
 use Rattle.xv_model.specs.declared.board.Spans.{Spans}
@@ -9,15 +9,17 @@ use Rattle.board_script.specs.declared.faults.Misread.{Misread}
 use Rattle.board_script.specs.declared.stage.Turn.{Turn}
 use Rattle.board_script.specs.declared.stage.Turn.TheVariants as turns
 use Rattle.board_script.specs.declared.stage.Stage.{Stage}
-use Rattle.board_script.specs.declared.stage.Stage.TheVariants.{Header, Work, Ended}
+use Rattle.board_script.specs.declared.stage.Stage.TheVariants.{Header, Work, Started, Ended}
 use Rattle.board_script.specs.declared.lines.Said.{Said}
 use Rattle.board_script.specs.declared.lines.Said.TheVariants as said
 use Rattle.board_script.specs.declared.lines.Line.{Line}
 use Rattle.board_script.specs.declared.lines.Line.TheVariants as line
 use Rattle.board_script.specs.declared.work.Work.{Work as AWork}
-use Rattle.board_script.specs.Words.{from_unprintable, skip, says_nothing, then_read}
+use Rattle.board_script.specs.declared.faults.Cause.TheVariants.{LongLine, BadByte}
+use Rattle.board_script.specs.Words.{from_unprintable, skip, says_nothing}
+use Rattle.board_script.specs.Grammar.{refused_at, then_read}
 use Rattle.board_script.specs.Work.{HasValidSteps}
-use Rattle.board_script.specs.Header.{Count, count_of, header_of}
+use Rattle.board_script.specs.Header.{header_of}
 use Rattle.board_script.specs.Working.{work_of}
 
 -- what is read of a line, or where it is refused
@@ -27,18 +29,19 @@ Reading = Result Said Misread
 -- no bytes are left, where a line has none that may not stand in it
 abbrev pub none_left : List ℕ → Result (Unit {0}) Misread
 none_left [] = Ok tt
-none_left (c ∷ cs) = Err (record { left = length (c ∷ cs) })
+none_left (c ∷ cs) = refused_at BadByte (c ∷ cs)
 
 -- a line is refused where it is long, behind the bytes that a line may have, or at a byte that may not stand in it
 abbrev pub check_of : List ℕ → Result (Unit {0}) Misread
 check_of line =
-    if nat_lt longest_line (length line) then Err (record { left = length line - longest_line })
+    if nat_lt longest_line (length line) then Err (record { cause = LongLine; left = length line - longest_line })
     else none_left (from_unprintable line)
 
 -- what the words of a line say at a stage on a board
 abbrev pub words_of : Stage → Board → List ℕ → Reading
 words_of (Header turn) b rest = header_of turn b rest
-words_of Work b rest = work_of b rest
+words_of Work b rest = work_of b false rest
+words_of Started b rest = work_of b true rest
 words_of Ended b rest = Ok said.Nothing
 
 -- a line without words, or with a comment, says nothing
@@ -63,6 +66,7 @@ line_by b (said.Level span) = line.Header
 line_by b (said.Unclaimed span) = line.Header
 line_by b (said.Unconnected span) = line.Header
 line_by b said.Go = line.Go b
+line_by b said.Start = line.Start
 line_by b said.End = line.End
 line_by b (said.Work actor work) = line.Work actor work
 
@@ -101,24 +105,26 @@ IsLastSaid turn b (said.Unconnected span) = IsRange b.limits.processors b.unconn
 IsLastSaid turn b said.Go = Unit {0}
 IsLastSaid turn b _ = ⊥
 
--- what a line of the header says at a turn fits what that counts
-abbrev pub IsHeaderBy : Option Count → Turn → Board → Said → Type 0
-IsHeaderBy (Some c) turn b it = IsNumber c.low c.most it
-IsHeaderBy None turns.Esb b it = IsPages it
-IsHeaderBy None turn b it = IsLastSaid turn b it
-
 -- what a line of the header says has the form and the range of its turn
 abbrev pub IsHeaderSaid : Turn → Board → Said → Type 0
-IsHeaderSaid turn b it = IsHeaderBy (count_of turn) turn b it
+IsHeaderSaid turns.Board b it = IsNumber 1 1 it
+IsHeaderSaid turns.Sources b it = IsNumber 1 most_sources it
+IsHeaderSaid turns.Processors b it = IsNumber 1 most_processors it
+IsHeaderSaid turns.Threads b it = IsNumber 1 most_threads it
+IsHeaderSaid turns.Ram b it = IsNumber 0 most_ram_mib it
+IsHeaderSaid turns.Actors b it = IsNumber 1 most_actors it
+IsHeaderSaid turns.Esb b it = IsPages it
+IsHeaderSaid turn b it = IsLastSaid turn b it
 
 -- a work line is by an actor of the board, and its operations are valid there
 pub record IsWork (b : Board) (actor : ℕ) (work : AWork) : Type 0 where
   pub actor_is : actor < b.limits.actors
   pub valid_steps : HasValidSteps b work
 
--- what a line after the header says is the end, or a work line
+-- what a line after the header says is the end, the start, or a work line
 abbrev pub IsWorkSaid : Board → Said → Type 0
 IsWorkSaid b said.End = Unit {0}
+IsWorkSaid b said.Start = Unit {0}
 IsWorkSaid b (said.Work actor work) = IsWork b actor work
 IsWorkSaid b _ = ⊥
 
@@ -126,6 +132,7 @@ IsWorkSaid b _ = ⊥
 abbrev pub IsWordsSaid : Stage → Board → Said → Type 0
 IsWordsSaid (Header turn) b it = IsHeaderSaid turn b it
 IsWordsSaid Work b it = IsWorkSaid b it
+IsWordsSaid Started b it = IsWorkSaid b it
 IsWordsSaid Ended b it = ⊥
 
 -- what a line says fits its stage

@@ -1,9 +1,6 @@
 -- The numbers and pairs of a line.
 use Rattle.std.specs.Prelude.{ℕ, ◌==◌, ◌+◌, ◌-◌, ◌*◌, ◌^◌, ◌&&◌, ◌||◌, nat_lt, nat_le, if◌then◌else◌, List, [], ◌∷◌, Option, Some, None, length, codes}
-use Rattle.std.specs.declared.result.Result.{Result}
-use Rattle.xv_base.specs.Limits.{ends_per_processor}
-use Rattle.board_script.specs.declared.faults.Misread.{Misread}
-use Rattle.board_script.specs.Words.{word_of, is_empty, is_word, value_at}
+use Rattle.board_script.specs.Words.{is_empty, is_word}
 
 -- the number that more decimal digits make of a number, where each is one and it stays below 2 ^ 64
 abbrev pub decimal_from : ℕ → List ℕ → Option ℕ
@@ -43,11 +40,6 @@ abbrev pub number_of : List ℕ → Option ℕ
 number_of (a ∷ b ∷ bs) = if (a == 48) && ((b == 120) || (b == 88)) then hexadecimal_of bs else decimal_of (a ∷ b ∷ bs)
 number_of word = decimal_of word
 
--- a number, where there is one from low on and below high
-abbrev pub in_bounds : Option ℕ → ℕ → ℕ → Option ℕ
-in_bounds (Some n) low high = if nat_le low n && nat_lt n high then Some n else None
-in_bounds None low high = None
-
 -- the pair that a word is: its P, and then its Q
 abbrev pub pair_of : List ℕ → Option ℕ
 pair_of word =
@@ -55,24 +47,3 @@ pair_of word =
     else (if is_word (codes "01") word then Some 1
     else (if is_word (codes "10") word then Some 2
     else (if is_word (codes "11") word then Some 3 else None)))
-
--- reads a number
-abbrev pub number_at : List ℕ → Result ℕ Misread
-number_at rest = value_at (number_of (word_of rest)) rest
-
--- reads a number from low on and below high
-abbrev pub bounded_at : ℕ → ℕ → List ℕ → Result ℕ Misread
-bounded_at low high rest = value_at (in_bounds (number_of (word_of rest)) low high) rest
-
--- reads a number below 2 ^ 32
-abbrev pub word32_at : List ℕ → Result ℕ Misread
-word32_at rest = bounded_at 0 (2 ^ 32) rest
-
--- reads the number of an END of a board with so many processors
-abbrev pub end_number_at : ℕ → List ℕ → Result ℕ Misread
-end_number_at processors rest =
-    value_at (in_bounds (in_bounds (number_of (word_of rest)) 0 (2 ^ 32)) 0 (ends_per_processor * processors)) rest
-
--- reads a pair
-abbrev pub pair_at : List ℕ → Result ℕ Misread
-pair_at rest = value_at (pair_of (word_of rest)) rest

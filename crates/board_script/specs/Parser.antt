@@ -2,13 +2,14 @@
 use Rattle.std.specs.Prelude.{ℕ, ◌+◌, min, List, Option, Some, None, Ok, Err}
 use Rattle.std.specs.declared.result.Result.{Result}
 use Rattle.xv_model.specs.declared.board.Board.{Board}
-use Rattle.board_script.specs.declared.faults.Cause.TheVariants.{NotBuilt}
+use Rattle.board_script.specs.declared.faults.Cause.TheVariants.{NoGo}
 use Rattle.board_script.specs.declared.faults.ScriptFault.{ScriptFault}
 use Rattle.board_script.specs.declared.stage.Turn.TheVariants as turns
 use Rattle.board_script.specs.declared.stage.Stage.{Stage}
-use Rattle.board_script.specs.declared.stage.Stage.TheVariants.{Header, Work, Ended}
+use Rattle.board_script.specs.declared.stage.Stage.TheVariants.{Header, Work}
 use Rattle.board_script.specs.declared.lines.Said.{Said}
 use Rattle.board_script.specs.declared.lines.Line.{Line}
+use Rattle.board_script.specs.Faults.{fault_of}
 use Rattle.board_script.specs.Lines.{Reading, said_of, line_by}
 use Rattle.board_script.specs.Stage.{first_board, stage_after, board_after}
 
@@ -23,38 +24,42 @@ pub record Parsing : Type 0 where
 abbrev pub new_parsing : Parsing
 new_parsing = record { stage = Header turns.Board; board = first_board; lines = 0; fault = None }
 
+-- behind the `go` line of a board
+abbrev pub parsing_behind : Board → Parsing
+parsing_behind b = record { stage = Work; board = b; lines = 0; fault = None }
+
 -- the number of the line after so many lines; numbers stand still at the last one of 32 bits
 abbrev pub line_after : ℕ → ℕ
 line_after n = min (n + 1) 4294967295
 
--- a line that isn't in the language so far: no fault says why and where yet
-abbrev pub not_built : ℕ → ScriptFault
-not_built n = record { line = n; byte = 1; cause = NotBuilt }
+-- the script is over before its `go`
+abbrev pub no_go : ℕ → ScriptFault
+no_go n = record { line = n; byte = 1; cause = NoGo }
 
 -- what a parser without a fault answers where this is read of a line
-abbrev pub answer_by : Parsing → Reading → Result Said ScriptFault
-answer_by p (Ok it) = Ok it
-answer_by p (Err m) = Err (not_built (line_after p.lines))
+abbrev pub answer_by : Parsing → List ℕ → Reading → Result Said ScriptFault
+answer_by p line (Ok it) = Ok it
+answer_by p line (Err m) = Err (fault_of (line_after p.lines) line m)
 
 -- what a parser answers a line, by the fault that is sticky
 abbrev pub read_by : Option ScriptFault → Parsing → List ℕ → Result Said ScriptFault
 read_by (Some fault) p line = Err fault
-read_by None p line = answer_by p (said_of p.stage p.board line)
+read_by None p line = answer_by p line (said_of p.stage p.board line)
 
 -- what a parser reads of a line: the fault that is sticky, or what the line says
 abbrev pub read_of : Parsing → List ℕ → Result Said ScriptFault
 read_of p line = read_by p.fault p line
 
 -- a parser without a fault after what is read of a line
-abbrev pub parsing_by : Parsing → Reading → Parsing
-parsing_by p (Ok it) =
+abbrev pub parsing_by : Parsing → List ℕ → Reading → Parsing
+parsing_by p line (Ok it) =
     record p { stage = stage_after p.stage it; board = board_after p.stage it p.board; lines = line_after p.lines }
-parsing_by p (Err m) = record p { lines = line_after p.lines; fault = Some (not_built (line_after p.lines)) }
+parsing_by p line (Err m) = record p { lines = line_after p.lines; fault = Some (fault_of (line_after p.lines) line m) }
 
 -- a parser after a line, by the fault that is sticky
 abbrev pub parsing_from : Option ScriptFault → Parsing → List ℕ → Parsing
 parsing_from (Some fault) p line = p
-parsing_from None p line = parsing_by p (said_of p.stage p.board line)
+parsing_from None p line = parsing_by p line (said_of p.stage p.board line)
 
 -- a parser after a line; one with a fault stays
 abbrev pub parsing_after : Parsing → List ℕ → Parsing
@@ -71,9 +76,8 @@ fed p line = fed_by (parsing_after p line).board (read_of p line)
 
 -- the end of the input at a stage after so many lines: the header is whole there, or the line after the last is at fault
 abbrev pub finished_at : Stage → ℕ → Result (Unit {0}) ScriptFault
-finished_at (Header turn) n = Err (not_built (line_after n))
-finished_at Work n = Ok tt
-finished_at Ended n = Ok tt
+finished_at (Header turn) n = Err (no_go (line_after n))
+finished_at _ n = Ok tt
 
 -- the end of the input, by the fault that is sticky
 abbrev pub finished_by : Option ScriptFault → Stage → ℕ → Result (Unit {0}) ScriptFault

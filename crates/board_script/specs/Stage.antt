@@ -8,7 +8,7 @@ use Rattle.xv_model.specs.board.Boards.{IsBoard}
 use Rattle.board_script.specs.declared.stage.Turn.{Turn}
 use Rattle.board_script.specs.declared.stage.Turn.TheVariants as turns
 use Rattle.board_script.specs.declared.stage.Stage.{Stage}
-use Rattle.board_script.specs.declared.stage.Stage.TheVariants.{Header, Work, Ended}
+use Rattle.board_script.specs.declared.stage.Stage.TheVariants.{Header, Work, Started, Ended}
 use Rattle.board_script.specs.declared.lines.Said.{Said}
 use Rattle.board_script.specs.declared.lines.Said.TheVariants as said
 
@@ -42,6 +42,12 @@ abbrev pub IsOpen : Stage → Type 0
 IsOpen Ended = ⊥
 IsOpen stage = Unit {0}
 
+-- lines of work may come
+abbrev pub IsWorking : Stage → Type 0
+IsWorking Work = Unit {0}
+IsWorking Started = Unit {0}
+IsWorking stage = ⊥
+
 -- the stage after a line of the header
 abbrev pub header_after : Turn → Said → Stage
 header_after turn said.Nothing = Header turn
@@ -53,7 +59,9 @@ header_after turn _ = Header (next_turn turn)
 -- the stage after a line
 abbrev pub stage_after : Stage → Said → Stage
 stage_after (Header turn) it = header_after turn it
-stage_after Work said.End = Ended
+stage_after Ended it = Ended
+stage_after stage said.End = Ended
+stage_after stage said.Start = Started
 stage_after stage _ = stage
 
 -- spans with one more

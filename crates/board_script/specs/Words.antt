@@ -1,8 +1,7 @@
 -- The words of a line. A line is read from the left: its rest is what is not read yet, from the next word on.
-use Rattle.std.specs.Prelude.{ℕ, ◌==◌, ◌&&◌, suc, nat_le, nat_eq, Bool, true, false, if◌then◌else◌, List, [], ◌∷◌, length, take, drop, Option, Some, None, Ok, Err}
+use Rattle.std.specs.Prelude.{ℕ, ◌==◌, ◌&&◌, suc, nat_le, nat_eq, Bool, true, false, if◌then◌else◌, List, [], ◌∷◌, take, drop, Ok, Err}
 use Rattle.std.specs.declared.result.Result.{Result}
 use Rattle.std.specs.Cmp.Lexicographic.{pointwise}
-use Rattle.board_script.specs.declared.faults.Misread.{Misread}
 
 -- whether a byte may stand in a line: it is from 0x20 to 0x7e
 abbrev pub may_stand : ℕ → Bool
@@ -45,42 +44,7 @@ says_nothing (b ∷ bs) = b == 35
 abbrev pub is_word : List ℕ → List ℕ → Bool
 is_word name word = pointwise nat_eq word name
 
--- refused at the next word of the rest, or where one is missing
-abbrev pub misread_at : List ℕ → Misread
-misread_at rest = record { left = length rest }
-
--- what a word is, or where it is refused
-abbrev pub value_or : {A : Type 0} → Option A → Misread → Result A Misread
-value_or (Some x) at = Ok x
-value_or None at = Err at
-
--- what is read of the next word, where it is something
-abbrev pub value_at : {A : Type 0} → Option A → List ℕ → Result A Misread
-value_at m rest = value_or m (misread_at rest)
-
--- the next word is this one
-abbrev pub name_at : List ℕ → List ℕ → Result (Unit {0}) Misread
-name_at name rest = if is_word name (word_of rest) then Ok tt else Err (misread_at rest)
-
--- there is no further word
-abbrev pub done_at : List ℕ → Result (Unit {0}) Misread
-done_at rest = if is_empty rest then Ok tt else Err (misread_at rest)
-
 -- an answer, with what was put into its place where nothing is refused
 abbrev pub answer_with : {A B : Type 0} → Result (Unit {0}) B → A → Result A B
 answer_with (Ok u) x = Ok x
 answer_with (Err e) x = Err e
-
--- goes on with what was read
-abbrev pub then_read : {A B : Type 0} → Result A Misread → (A → Result B Misread) → Result B Misread
-then_read (Ok x) next = next x
-then_read (Err m) next = Err m
-
--- reads the next word, and goes on with it and with the rest
-abbrev pub then_at : {A B : Type 0} →
-    (List ℕ → Result A Misread) → List ℕ → (A → List ℕ → Result B Misread) → Result B Misread
-then_at read rest next = then_read (read rest) (λ x. next x (rest_of rest))
-
--- this is said, where there is no further word
-abbrev pub at_end : {A : Type 0} → List ℕ → A → Result A Misread
-at_end rest it = then_read (done_at rest) (λ u. Ok it)

@@ -1,7 +1,8 @@
 //! Why and where a script is refused.
 
-ghost use Rattle.std.specs.Prelude.{◌≡◌, ◌≤◌, length};
-ghost use Rattle.board_script.specs.Faults.{cause_text, place};
+ghost use Rattle.std.specs.Prelude.{◌≡◌, ◌≤◌, ◌+◌, length};
+ghost use Rattle.xv_base.specs.Limits.{longest_line};
+ghost use Rattle.board_script.specs.Faults.{cause_text, place, fault_of};
 
 /// What is wrong with a line.
 #[derive(Clone, Copy, Debug, PartialEq, Eq)]
@@ -10,21 +11,21 @@ pub enum Cause {
     LongLine,
     /// A byte isn't from 0x20 to 0x7e.
     BadByte,
-    /// The first word stands out of its turn.
+    /// A header's word, `start`, `end` or a number stands as first word out of its turn.
     WrongPlace,
-    /// The language doesn't have the word.
+    /// No line begins with the word, or no operation has the name.
     UnknownWord,
     /// A word is missing.
     MissingWord,
     /// A word stands after the last.
     ExtraWord,
-    /// A word hasn't the form of its number or pair.
+    /// A word hasn't the form of its number, pair or flags.
     BadNumber,
-    /// A number is outside its range.
+    /// A number is outside its range, or a seventeenth range line of a kind is.
     OutOfRange,
     /// The source isn't a level source.
     NotLevel,
-    /// The configuration of an END isn't one.
+    /// The board doesn't allow the configuration of an END.
     BadEnd,
     /// The script ends before its `go`.
     NoGo,
@@ -34,7 +35,7 @@ pub enum Cause {
     TooManyLines,
     /// A live script has too many forwards.
     TooManyForwards,
-    /// The line isn't in the language that is built so far, for whatever reason.
+    /// The line is in the language, and what it asks for isn't built yet.
     NotBuilt,
 }
 
@@ -72,17 +73,24 @@ pub struct ScriptFault {
     pub cause: Cause,
 }
 
-/// Where a line is refused: so many of its bytes are left there.
+/// Where a line is refused, and why: so many of its bytes are left there.
 #[derive(Clone, Copy, Debug, PartialEq, Eq)]
 pub struct Misread {
+    pub cause: Cause,
     pub left: usize,
 }
 
 impl Misread {
-    /// The byte of the line that is refused, from 1; one past the last byte where a word is missing.
-    pub fn byte(self, line: &[u8]) -> usize
-        ensures { result ≡ place line.now self }
+    /// The fault of the line of this number. No line is read beyond its byte 257.
+    #[inline(never)]
+    pub fn fault(self, number: u32, line: &[u8]) -> ScriptFault
+        requires { place line.now self ≤ longest_line + 1 }
+        ensures { result ≡ fault_of number line.now self }
     {
-        line.len().saturating_sub(self.left) + 1
+        ScriptFault {
+            line: number,
+            byte: (line.len().saturating_sub(self.left) + 1) as u32,
+            cause: self.cause,
+        }
     }
 }

@@ -3,7 +3,8 @@
 ghost use Rattle.std.specs.Prelude.{◌≡◌, ◌≤◌, IfSome};
 ghost use Rattle.board_script.specs.Flags.{bit_of, of_bits, flags_of};
 
-use crate::faults::Misread;
+use crate::faults::{Cause, Misread};
+use crate::numbers::at_word;
 use crate::words::{Words, same};
 use bitflags::Flags;
 use xv_model::operations::EndFlags;
@@ -59,14 +60,15 @@ fn flags(word: &[u8]) -> Option<u8>
 
 impl<'a> Words<'a> {
     ghost use Rattle.board_script.specs.Words.{rest_of};
-    ghost use Rattle.board_script.specs.Flags.{flags_at};
+    ghost use Rattle.board_script.specs.Grammar.{Flags, read_as};
 
     /// Reads flags.
     pub fn flags(&mut self) -> Result<u8, Misread>
-        ensures value { result ≡ flags_at self.old }
+        ensures value { result ≡ read_as Flags self.old }
         ensures rest { self.new ≡ rest_of self.old }
     {
-        let here = self.here();
-        flags(self.next()).ok_or(here)
+        let left = self.left();
+        self.some()?;
+        at_word(left, flags(self.next()).ok_or(Cause::BadNumber))
     }
 }

@@ -2,7 +2,9 @@
 #![tactic(auto)]
 
 mod configuring;
+mod ends;
 pub mod faults;
+mod first_words;
 mod flags;
 mod header;
 pub mod laws;
@@ -16,6 +18,7 @@ mod sources;
 pub mod stage;
 #[cfg(test)]
 mod tests;
+mod unbuilt;
 mod words;
 pub mod work;
 mod working;

@@ -1,10 +1,13 @@
 //! What the lines of a script say.
 
-ghost use Rattle.std.specs.Prelude.{◌≡◌, OnErr};
+ghost use Rattle.std.specs.Prelude.{◌≡◌, ◌≤◌, ◌+◌, length, IfErr, OnOk, OnErr};
+ghost use Rattle.xv_base.specs.Limits.{longest_line};
+ghost use Rattle.xv_model.specs.board.Boards.{IsBoard};
+ghost use Rattle.board_script.specs.Faults.{place};
 ghost use Rattle.board_script.specs.Words.{answer_with};
 ghost use Rattle.board_script.specs.Lines.{check_of, said_of, line_by};
 
-use crate::faults::Misread;
+use crate::faults::{Cause, Misread};
 use crate::header::header_line;
 use crate::stage::Stage;
 use crate::words::{Words, unprintable};
@@ -22,7 +25,7 @@ pub enum Line {
     Header,
     /// The header is whole, and this is its board.
     Go { board: Board },
-    /// The half before the start of other threads is over. No line says so yet.
+    /// The first half of the script is over. It makes no entry.
     Start,
     /// The script is over.
     End,
@@ -47,6 +50,8 @@ pub enum Said {
     Unconnected { span: Span },
     /// The header is whole.
     Go,
+    /// The first half of the script is over.
+    Start,
     /// The script is over.
     End,
     /// An actor has this work.
@@ -55,25 +60,32 @@ pub enum Said {
 
 /// Refuses a line that is long, or has a byte that may not stand in it.
 fn check(line: &[u8]) -> Result<(), Misread>
-    ensures { result ≡ check_of line.now }
+    ensures value { result ≡ check_of line.now }
+    ensures short { OnOk result (length line.now ≤ longest_line) }
+    ensures place { IfErr result (λ m. place line.now m ≤ longest_line + 1) }
 {
     if line.len() > LONGEST_LINE {
         return Err(Misread {
+            cause: Cause::LongLine,
             left: line.len() - LONGEST_LINE,
         });
     }
     let bad = unprintable(line);
     if bad.is_empty() {
-        Ok(())
-    } else {
-        Err(Misread { left: bad.len() })
+        return Ok(());
     }
+    Err(Misread {
+        cause: Cause::BadByte,
+        left: bad.len(),
+    })
 }
 
 /// Puts what a line says at a stage into `said`, which stays as it is where the line is refused.
 pub(crate) fn read(stage: Stage, board: &Board, line: &[u8], said: &mut Said) -> Result<(), Misread>
+    requires { IsBoard board.now }
     ensures value { answer_with result said.new ≡ said_of stage board.now line.now }
     ensures unchanged { OnErr result (said.new ≡ said.old) }
+    ensures place { IfErr result (λ m. place line.now m ≤ longest_line + 1) }
 {
     if let Stage::Ended = stage {
         *said = Said::Nothing;
@@ -87,7 +99,8 @@ pub(crate) fn read(stage: Stage, board: &Board, line: &[u8], said: &mut Said) ->
     }
     match stage {
         Stage::Header { turn } => *said = header_line(turn, board, &mut words)?,
-        Stage::Work => work_line(board, &mut words, said)?,
+        Stage::Work => work_line(board, false, &mut words, said)?,
+        Stage::Started => work_line(board, true, &mut words, said)?,
         Stage::Ended => *said = Said::Nothing,
     }
     Ok(())
@@ -100,6 +113,7 @@ pub(crate) fn whole_line(board: &Board, said: Said) -> Line
     match said {
         Said::Nothing => Line::Nothing,
         Said::Go => Line::Go { board: *board },
+        Said::Start => Line::Start,
         Said::End => Line::End,
         Said::Work { actor, work } => Line::Work { actor, work },
         _ => Line::Header,

@@ -1,12 +1,12 @@
 //! The numbers and pairs of a line.
 
-ghost use Rattle.std.specs.Prelude.{◌≡◌, ◌<◌, ◌≤◌, IfSome, IfOk};
-ghost use Rattle.board_script.specs.Numbers.{decimal_of, hexadecimal_of, digit_of, number_of, in_bounds, pair_of};
-ghost use Rattle.board_script.specs.Words.{value_or};
+ghost use Rattle.std.specs.Prelude.{ℕ, ◌≡◌, ◌<◌, ◌≤◌, ◌*◌, ◌^◌, List, length, IfSome, IfOk, IsTrue};
+ghost use Rattle.xv_model.specs.processor.RingOps.{is_size};
+ghost use Rattle.board_script.specs.Numbers.{decimal_of, hexadecimal_of, digit_of, number_of, pair_of};
+ghost use Rattle.board_script.specs.Grammar.{read_at, in_range as range_of, in_sizes, some_at};
 
-use crate::faults::Misread;
+use crate::faults::{Cause, Misread};
 use crate::words::{Words, same};
-use xv_base::limits::ENDS_PER_PROCESSOR;
 
 /// The number of 1 to 20 decimal digits.
 fn decimal(word: &[u8]) -> Option<u64>
@@ -70,7 +70,7 @@ fn hexadecimal(word: &[u8]) -> Option<u64>
 }
 
 /// The number that a word is.
-fn number(word: &[u8]) -> Option<u64>
+pub fn number(word: &[u8]) -> Option<u64>
     ensures { result ≡ number_of word.now }
 {
     match word {
@@ -104,82 +104,124 @@ fn pair(word: &[u8]) -> Option<u8>
     None
 }
 
-/// The number from `low` on and below `high` that a word is; another word is refused `here`.
-pub fn bounded(here: Misread, word: &[u8], low: u32, high: u32) -> Result<u32, Misread>
-    ensures value { result ≡ value_or (in_bounds (number_of word.now) low high) here }
+/// A number from `low` on and below `high`, or what is wrong with it.
+fn in_range(n: Option<u64>, low: u32, high: u64) -> Result<u32, Cause>
+    requires { high ≤ 2 ^ 32 }
+    ensures value { result ≡ range_of low high n }
     ensures bounds { IfOk result (λ n. (low ≤ n) × (n < high)) }
 {
-    match number(word) {
-        Some(n) => {
-            if low as u64 <= n && n < high as u64 {
-                Ok(n as u32)
-            } else {
-                Err(here)
-            }
-        }
-        None => Err(here),
+    let n = n.ok_or(Cause::BadNumber)?;
+    if low as u64 <= n && n < high {
+        Ok(n as u32)
+    } else {
+        Err(Cause::OutOfRange)
+    }
+}
+
+/// How many bytes an access has, or what is wrong with it.
+fn size(n: Option<u64>) -> Result<u8, Cause>
+    ensures value { result ≡ in_sizes n }
+    ensures sizes { IfOk result (λ n. IsTrue (is_size n)) }
+{
+    let n = n.ok_or(Cause::BadNumber)?;
+    if n == 1 || n == 2 || n == 4 || n == 8 {
+        Ok(n as u8)
+    } else {
+        Err(Cause::OutOfRange)
+    }
+}
+
+/// A value of so many bytes, or what is wrong with it.
+fn value(n: Option<u64>, size: u8) -> Result<u64, Cause>
+    requires { IsTrue (is_size size) }
+    ensures { result ≡ range_of 0 (2 ^ (8 * size)) n }
+{
+    let n = n.ok_or(Cause::BadNumber)?;
+    if size == 8 || n >> (8 * size) == 0 {
+        Ok(n)
+    } else {
+        Err(Cause::OutOfRange)
+    }
+}
+
+/// A word that was read, or the line is refused where so many of its bytes are left.
+pub fn at_word<T>(left: usize, read: Result<T, Cause>) -> Result<T, Misread>
+    ensures { (rest : List ℕ) → length rest ≡ left → result ≡ read_at rest read }
+{
+    match read {
+        Ok(value) => Ok(value),
+        Err(cause) => Err(Misread { cause, left }),
     }
 }
 
 impl<'a> Words<'a> {
     ghost use Rattle.board_script.specs.Words.{rest_of};
-    ghost use Rattle.board_script.specs.Numbers.{number_at, bounded_at, word32_at, end_number_at, pair_at};
+    ghost use Rattle.board_script.specs.Grammar.{Number, AnyNumber, Size, Pair, read_as};
 
-    /// Reads a number.
-    pub fn number(&mut self) -> Result<u64, Misread>
-        ensures value { result ≡ number_at self.old }
-        ensures rest { self.new ≡ rest_of self.old }
+    /// Refuses the line where no word is left.
+    pub(crate) fn some(&self) -> Result<(), Misread>
+        ensures { result ≡ some_at self.now }
     {
-        let here = self.here();
-        number(self.next()).ok_or(here)
+        if self.left() == 0 {
+            return Err(Misread {
+                cause: Cause::MissingWord,
+                left: 0,
+            });
+        }
+        Ok(())
     }
 
-    /// Reads a number from `low` on and below `high`.
-    pub fn bounded(&mut self, low: u32, high: u32) -> Result<u32, Misread>
-        ensures value { result ≡ bounded_at low high self.old }
+    /// Reads a number below 2^64.
+    pub fn number(&mut self) -> Result<u64, Misread>
+        ensures value { result ≡ read_as AnyNumber self.old }
+        ensures rest { self.new ≡ rest_of self.old }
+    {
+        let left = self.left();
+        self.some()?;
+        at_word(left, number(self.next()).ok_or(Cause::BadNumber))
+    }
+
+    /// Reads a number from `low` on and below `high`, which is at most 2^32.
+    pub fn bounded(&mut self, low: u32, high: u64) -> Result<u32, Misread>
+        requires { high ≤ 2 ^ 32 }
+        ensures value { result ≡ read_as (Number low high) self.old }
         ensures bounds { IfOk result (λ n. (low ≤ n) × (n < high)) }
         ensures rest { self.new ≡ rest_of self.old }
     {
-        let here = self.here();
-        bounded(here, self.next(), low, high)
+        let left = self.left();
+        self.some()?;
+        at_word(left, in_range(number(self.next()), low, high))
     }
 
-    /// Reads a number below 2 ^ 32.
-    pub fn word32(&mut self) -> Result<u32, Misread>
-        ensures value { result ≡ word32_at self.old }
+    /// Reads how many bytes an access has: 1, 2, 4 or 8.
+    pub fn size(&mut self) -> Result<u8, Misread>
+        ensures value { result ≡ read_as Size self.old }
+        ensures sizes { IfOk result (λ n. IsTrue (is_size n)) }
         ensures rest { self.new ≡ rest_of self.old }
     {
-        let here = self.here();
-        match number(self.next()) {
-            Some(n) => { if n < 1 << 32 { Ok(n as u32) } else { Err(here) } }
-            None => Err(here),
-        }
+        let left = self.left();
+        self.some()?;
+        at_word(left, size(number(self.next())))
     }
 
-    /// Reads the number of an END of a board with so many processors.
-    pub fn end_number(&mut self, processors: u32) -> Result<u32, Misread>
-        ensures value { result ≡ end_number_at processors self.old }
+    /// Reads a value of so many bytes.
+    pub fn value(&mut self, size: u8) -> Result<u64, Misread>
+        requires { IsTrue (is_size size) }
+        ensures value { result ≡ read_as (Number 0 (2 ^ (8 * size))) self.old }
         ensures rest { self.new ≡ rest_of self.old }
     {
-        let here = self.here();
-        match number(self.next()) {
-            Some(n) => {
-                if n < 1 << 32 && n < ENDS_PER_PROCESSOR as u64 * processors as u64 {
-                    Ok(n as u32)
-                } else {
-                    Err(here)
-                }
-            }
-            None => Err(here),
-        }
+        let left = self.left();
+        self.some()?;
+        at_word(left, value(number(self.next()), size))
     }
 
     /// Reads a pair.
     pub fn pair(&mut self) -> Result<u8, Misread>
-        ensures value { result ≡ pair_at self.old }
+        ensures value { result ≡ read_as Pair self.old }
         ensures rest { self.new ≡ rest_of self.old }
     {
-        let here = self.here();
-        pair(self.next()).ok_or(here)
+        let left = self.left();
+        self.some()?;
+        at_word(left, pair(self.next()).ok_or(Cause::BadNumber))
     }
 }

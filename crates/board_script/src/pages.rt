@@ -1,7 +1,11 @@
 //! Work lines on the pages of sources and ENDs, by what stands after the name of the operation.
 
-ghost use Rattle.std.specs.Prelude.{◌≡◌};
-ghost use Rattle.board_script.specs.Pages.{place_of, source_page_line_of, end_page_line_of};
+ghost use Rattle.std.specs.Prelude.{◌≡◌, ℕ, List};
+ghost use Rattle.xv_model.specs.declared.operations.Op.TheVariants as ops;
+ghost use Rattle.xv_model.specs.declared.pages.TheConstants.{END_PAGES as pages_of_an_end};
+ghost use Rattle.xv_model.specs.board.Boards.{IsBoard, source_pages};
+ghost use Rattle.board_script.specs.Grammar.{walk};
+ghost use Rattle.board_script.specs.Operations.{end_number, on_page, source};
 
 use crate::faults::Misread;
 use crate::words::Words;
@@ -11,24 +15,39 @@ use xv_model::operations::Op;
 use xv_model::pages::END_PAGES;
 
 /// The bytes of a page (QEMU's XIVE_ESB_64K).
-const PAGE_BYTES: u32 = 0x10000;
+const PAGE_BYTES: u64 = 0x10000;
 
-/// One of so many pages, and an offset on it in bytes: the last two words of a line.
-fn place(pages: u8, words: &mut Words) -> Result<(u8, u16), Misread>
-    ensures { result ≡ place_of pages words.old }
-{
-    let page = words.bounded(0, pages as u32)?;
-    let offset = words.bounded(0, PAGE_BYTES)?;
-    words.done()?;
-    Ok((page as u8, offset as u16))
+impl<'a> Words<'a> {
+    ghost use Rattle.board_script.specs.Words.{rest_of};
+    ghost use Rattle.board_script.specs.Grammar.{read_as};
+    ghost use Rattle.board_script.specs.Operations.{below, offset};
+
+    /// Reads one of so many pages.
+    pub(crate) fn page(&mut self, pages: u8) -> Result<u8, Misread>
+        ensures value { result ≡ read_as (below pages) self.old }
+        ensures rest { self.new ≡ rest_of self.old }
+    {
+        Ok(self.bounded(0, pages as u64)? as u8)
+    }
+
+    /// Reads an offset on a page, in bytes.
+    pub(crate) fn offset(&mut self) -> Result<u16, Misread>
+        ensures value { result ≡ read_as offset self.old }
+        ensures rest { self.new ≡ rest_of self.old }
+    {
+        Ok(self.bounded(0, PAGE_BYTES)? as u16)
+    }
 }
 
 /// A load or a store on a page of a source.
 pub fn source_page_line(board: &Board, store: bool, words: &mut Words) -> Result<Work, Misread>
-    ensures { result ≡ source_page_line_of board.now store words.old }
+    ensures { (at : List ℕ) → result
+        ≡ walk at (on_page (source board.now) (source_pages board.now) (λ s page offset. ops.Esb s page offset store)) words.old }
 {
-    let s = words.bounded(0, board.limits.sources)?;
-    let (page, offset) = place(board.source_pages(), words)?;
+    let s = words.bounded(0, board.limits.sources as u64)?;
+    let page = words.page(board.source_pages())?;
+    let offset = words.offset()?;
+    words.done()?;
     Ok(Work::once(Op::Esb {
         s,
         page,
@@ -39,10 +58,14 @@ pub fn source_page_line(board: &Board, store: bool, words: &mut Words) -> Result
 
 /// A load or a store on a page of an END.
 pub fn end_page_line(board: &Board, store: bool, words: &mut Words) -> Result<Work, Misread>
-    ensures { result ≡ end_page_line_of board.now store words.old }
+    requires { IsBoard board.now }
+    ensures { (at : List ℕ) → result
+        ≡ walk at (on_page (end_number board.now) pages_of_an_end (λ e page offset. ops.EndEsb e page offset store)) words.old }
 {
-    let e = words.end_number(board.limits.processors)?;
-    let (page, offset) = place(END_PAGES, words)?;
+    let e = words.end_number(board)?;
+    let page = words.page(END_PAGES)?;
+    let offset = words.offset()?;
+    words.done()?;
     Ok(Work::once(Op::EndEsb {
         e,
         page,

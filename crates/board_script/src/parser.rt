@@ -4,13 +4,14 @@ ghost use Rattle.std.specs.Prelude.{◌≡◌, ◌<◌, ℕ, List, length, false
 ghost use Rattle.xv_base.specs.Limits.{longest_line};
 ghost use Rattle.xv_model.specs.board.Boards.{IsBoard};
 ghost use Rattle.board_script.specs.Stage.{first_board, IsOpen};
-ghost use Rattle.board_script.specs.Parser.{not_built};
+ghost use Rattle.board_script.specs.Parser.{no_go};
 
 use crate::faults::{Cause, ScriptFault};
 use crate::lines::{Line, Said, read, whole_line};
 use crate::stage::{Stage, Turn, advance};
 use std::marker::Model;
 use xv_base::Limits;
+use xv_base::limits::LONGEST_LINE;
 use xv_model::board::{Board, Spans};
 
 /// A parser. A contract sees how far it has read, the board so far, how many lines it was fed, and the fault
@@ -55,21 +56,21 @@ fn least_board() -> Board
     }
 }
 
-/// The fault of a line that isn't in the language.
-fn refusal(line: u32) -> ScriptFault
-    ensures { result ≡ not_built line }
+/// The fault of a script that is over before its `go`, in the line after the last.
+fn missing_go(line: u32) -> ScriptFault
+    ensures { result ≡ no_go line }
 {
     ScriptFault {
         line,
         byte: 1,
-        cause: Cause::NotBuilt,
+        cause: Cause::NoGo,
     }
 }
 
 impl Parser {
     ghost use Rattle.board_script.specs.Words.{answer_with};
     ghost use Rattle.board_script.specs.Lines.{IsSaidAt};
-    ghost use Rattle.board_script.specs.Parser.{new_parsing, read_of, fed, parsing_after, finished, parsing_at_end};
+    ghost use Rattle.board_script.specs.Parser.{new_parsing, parsing_behind, read_of, fed, parsing_after, finished, parsing_at_end};
 
     /// A parser before the first line. No live script is in the language yet.
     pub fn new(live: bool) -> Parser
@@ -80,6 +81,19 @@ impl Parser {
         Parser {
             stage: Stage::Header { turn: Turn::Board },
             board: least_board(),
+            lines: 0,
+            fault: None,
+        }
+    }
+
+    /// A parser behind the `go` line of this board, which counts its next line as 1.
+    pub fn after_go(board: &Board) -> Parser
+        requires { IsBoard board.now }
+        ensures { result ≡ parsing_behind board.now }
+    {
+        Parser {
+            stage: Stage::Work,
+            board: *board,
             lines: 0,
             fault: None,
         }
@@ -102,8 +116,8 @@ impl Parser {
                 advance(&mut self.stage, &mut self.board, said);
                 Ok(())
             }
-            Err(_) => {
-                let fault = refusal(self.lines);
+            Err(misread) => {
+                let fault = misread.fault(self.lines, line);
                 self.fault = Some(fault);
                 Err(fault)
             }
@@ -111,6 +125,7 @@ impl Parser {
     }
 
     /// Refuses a line that is too long, whatever it has besides, as `read` does. The script isn't over.
+    #[inline(never)]
     pub fn refuse_long(&mut self) -> ScriptFault
         requires { IsOpen self.old.stage }
         ensures value { (line : List ℕ) →
@@ -122,7 +137,11 @@ impl Parser {
             return fault;
         }
         self.lines = self.lines.saturating_add(1);
-        let fault = refusal(self.lines);
+        let fault = ScriptFault {
+            line: self.lines,
+            byte: LONGEST_LINE as u32 + 1,
+            cause: Cause::LongLine,
+        };
         self.fault = Some(fault);
         fault
     }
@@ -146,6 +165,7 @@ impl Parser {
     }
 
     /// Ends the input: an error where a fault is sticky, or where no `go` line was fed. An error is sticky.
+    #[inline(never)]
     pub fn finish(&mut self) -> Result<(), ScriptFault>
         ensures value { result ≡ finished self.old }
         ensures after { self.new ≡ parsing_at_end self.old }
@@ -154,7 +174,7 @@ impl Parser {
             return Err(fault);
         }
         if let Stage::Header { .. } = self.stage {
-            let missing = refusal(self.lines.saturating_add(1));
+            let missing = missing_go(self.lines.saturating_add(1));
             self.fault = Some(missing);
             return Err(missing);
         }

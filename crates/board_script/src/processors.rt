@@ -1,7 +1,12 @@
 //! Work lines on processors, messages and rings, by what stands after the name of the operation.
 
-ghost use Rattle.std.specs.Prelude.{◌≡◌};
-ghost use Rattle.board_script.specs.Processors.{settle_line_of, drain_line_of, take_line_of, connect_line_of, restore_line_of, save_line_of, push_line_of, tima_load_of, pull_line_of, ack_line_of, regs_line_of, tima_byte_of, cppr_line_of, inject_line_of};
+ghost use Rattle.std.specs.Prelude.{◌≡◌, ℕ, List};
+ghost use Rattle.xv_model.specs.declared.operations.Access.TheVariants.{Load, Store};
+ghost use Rattle.xv_model.specs.declared.operations.Op.TheVariants as ops;
+ghost use Rattle.xv_model.specs.declared.tima.TheConstants.{TM_HV_PAGE as hv_page, TM_ACKNOWLEDGE as acknowledge, TM_OS_CPPR as os_cppr, TM_PULL_CONTEXT as pull_context, TM_QW1_OS as os_ring, TM_SET_PENDING as set_pending, TM_OS_PAGE as os_page};
+ghost use Rattle.board_script.specs.Work.{drain, settle};
+ghost use Rattle.board_script.specs.Grammar.{walk};
+ghost use Rattle.board_script.specs.Operations.{byte, cam_store, does, nothing, one, processor, thread, two, word32, tima_load as load_words, tima_store as store_words};
 
 use crate::faults::Misread;
 use crate::words::Words;
@@ -9,13 +14,13 @@ use crate::work::Work;
 use xv_model::board::Board;
 use xv_model::operations::{Access, Op};
 use xv_model::tima::{
-    CAM_FIRST, CAM_VALID, TM_ACKNOWLEDGE, TM_HV_PAGE, TM_OS_CAM, TM_OS_CPPR, TM_OS_PAGE,
+    CAM_FIRST, CAM_VALID, TM_ACKNOWLEDGE, TM_HV_PAGE, TM_OS_CAM, TM_OS_CPPR, TM_OS_PAGE, TM_PAGES,
     TM_PULL_CONTEXT, TM_QW1_OS, TM_SET_PENDING,
 };
 
 /// Takes of the oldest message until there is none.
 pub fn settle_line(words: &mut Words) -> Result<Work, Misread>
-    ensures { result ≡ settle_line_of words.old }
+    ensures { (at : List ℕ) → result ≡ walk at (nothing settle) words.old }
 {
     words.done()?;
     Ok(Work::SETTLE)
@@ -23,7 +28,7 @@ pub fn settle_line(words: &mut Words) -> Result<Work, Misread>
 
 /// All sources of a board are drained.
 pub fn drain_line(board: &Board, words: &mut Words) -> Result<Work, Misread>
-    ensures { result ≡ drain_line_of board.now words.old }
+    ensures { (at : List ℕ) → result ≡ walk at (nothing (drain board.now.limits.sources)) words.old }
 {
     words.done()?;
     Ok(Work::drain(board.limits.sources))
@@ -31,47 +36,47 @@ pub fn drain_line(board: &Board, words: &mut Words) -> Result<Work, Misread>
 
 /// The take of one of the messages in flight.
 pub fn take_line(words: &mut Words) -> Result<Work, Misread>
-    ensures { result ≡ take_line_of words.old }
+    ensures { (at : List ℕ) → result ≡ walk at (one word32 (λ i. does (ops.Take i))) words.old }
 {
-    let i = words.word32()?;
+    let i = words.bounded(0, 1 << 32)?;
     words.done()?;
     Ok(Work::once(Op::Take { i }))
 }
 
 /// The connection of a processor.
 pub fn connect_line(board: &Board, words: &mut Words) -> Result<Work, Misread>
-    ensures { result ≡ connect_line_of board.now words.old }
+    ensures { (at : List ℕ) → result ≡ walk at (one (processor board.now) (λ v. does (ops.Connect v))) words.old }
 {
-    let v = words.bounded(0, board.limits.processors)?;
+    let v = words.bounded(0, board.limits.processors as u64)?;
     words.done()?;
     Ok(Work::once(Op::Connect { v }))
 }
 
 /// The context of a processor goes from what is saved into the ring of a thread.
 pub fn restore_line(board: &Board, words: &mut Words) -> Result<Work, Misread>
-    ensures { result ≡ restore_line_of board.now words.old }
+    ensures { (at : List ℕ) → result ≡ walk at (two (processor board.now) (thread board.now) (λ v t. does (ops.Restore v t))) words.old }
 {
-    let v = words.bounded(0, board.limits.processors)?;
-    let t = words.bounded(0, board.limits.threads)?;
+    let v = words.bounded(0, board.limits.processors as u64)?;
+    let t = words.bounded(0, board.limits.threads as u64)?;
     words.done()?;
     Ok(Work::once(Op::Restore { v, t }))
 }
 
 /// The context of a processor is saved.
 pub fn save_line(board: &Board, words: &mut Words) -> Result<Work, Misread>
-    ensures { result ≡ save_line_of board.now words.old }
+    ensures { (at : List ℕ) → result ≡ walk at (one (processor board.now) (λ v. does (ops.Save v))) words.old }
 {
-    let v = words.bounded(0, board.limits.processors)?;
+    let v = words.bounded(0, board.limits.processors as u64)?;
     words.done()?;
     Ok(Work::once(Op::Save { v }))
 }
 
 /// The push of a processor on a thread: the hypervisor stores the processor's CAM word, with its valid bit.
 pub fn push_line(board: &Board, words: &mut Words) -> Result<Work, Misread>
-    ensures { result ≡ push_line_of board.now words.old }
+    ensures { (at : List ℕ) → result ≡ walk at (two (thread board.now) (processor board.now) (λ t v. does (cam_store t v))) words.old }
 {
-    let t = words.bounded(0, board.limits.threads)?;
-    let v = words.bounded(0, board.limits.processors)?;
+    let t = words.bounded(0, board.limits.threads as u64)?;
+    let v = words.bounded(0, board.limits.processors as u64)?;
     words.done()?;
     let value = CAM_VALID as u64 + CAM_FIRST as u64 + v as u64;
     Ok(Work::once(Op::Tima {
@@ -84,16 +89,16 @@ pub fn push_line(board: &Board, words: &mut Words) -> Result<Work, Misread>
 }
 
 /// A load of a thread from a page of the TIMA, of so many bytes; the thread is the last word of a line.
-fn tima_load(
+fn load_of(
     board: &Board,
     page: u8,
     offset: u16,
     size: u8,
     words: &mut Words,
 ) -> Result<Work, Misread>
-    ensures { result ≡ tima_load_of board.now page offset size words.old }
+    ensures { (at : List ℕ) → result ≡ walk at (one (thread board.now) (λ t. does (ops.Tima t page offset size Load))) words.old }
 {
-    let t = words.bounded(0, board.limits.threads)?;
+    let t = words.bounded(0, board.limits.threads as u64)?;
     words.done()?;
     Ok(Work::once(Op::Tima {
         t,
@@ -106,30 +111,31 @@ fn tima_load(
 
 /// The pull of what a thread has.
 pub fn pull_line(board: &Board, words: &mut Words) -> Result<Work, Misread>
-    ensures { result ≡ pull_line_of board.now words.old }
+    ensures { (at : List ℕ) → result ≡ walk at (one (thread board.now) (λ t. does (ops.Tima t hv_page pull_context 4 Load))) words.old }
 {
-    tima_load(board, TM_HV_PAGE, TM_PULL_CONTEXT, 4, words)
+    load_of(board, TM_HV_PAGE, TM_PULL_CONTEXT, 4, words)
 }
 
 /// The acknowledgement of what is presented to a thread.
 pub fn ack_line(board: &Board, words: &mut Words) -> Result<Work, Misread>
-    ensures { result ≡ ack_line_of board.now words.old }
+    ensures { (at : List ℕ) → result ≡ walk at (one (thread board.now) (λ t. does (ops.Tima t os_page acknowledge 2 Load))) words.old }
 {
-    tima_load(board, TM_OS_PAGE, TM_ACKNOWLEDGE, 2, words)
+    load_of(board, TM_OS_PAGE, TM_ACKNOWLEDGE, 2, words)
 }
 
 /// A look at the first 8 bytes of a thread's ring: its registers.
 pub fn regs_line(board: &Board, words: &mut Words) -> Result<Work, Misread>
-    ensures { result ≡ regs_line_of board.now words.old }
+    ensures { (at : List ℕ) → result ≡ walk at (one (thread board.now) (λ t. does (ops.Tima t os_page os_ring 8 Load))) words.old }
 {
-    tima_load(board, TM_OS_PAGE, TM_QW1_OS, 8, words)
+    load_of(board, TM_OS_PAGE, TM_QW1_OS, 8, words)
 }
 
 /// A store of a thread on the page of the operating system: the thread, and a byte.
-fn tima_byte(board: &Board, offset: u16, words: &mut Words) -> Result<Work, Misread>
-    ensures { result ≡ tima_byte_of board.now offset words.old }
+#[inline(always)]
+fn byte_of(board: &Board, offset: u16, words: &mut Words) -> Result<Work, Misread>
+    ensures { (at : List ℕ) → result ≡ walk at (two (thread board.now) byte (λ t value. does (ops.Tima t os_page offset 1 (Store value)))) words.old }
 {
-    let t = words.bounded(0, board.limits.threads)?;
+    let t = words.bounded(0, board.limits.threads as u64)?;
     let value = words.bounded(0, 1 << 8)?;
     words.done()?;
     Ok(Work::once(Op::Tima {
@@ -145,14 +151,51 @@ fn tima_byte(board: &Board, offset: u16, words: &mut Words) -> Result<Work, Misr
 
 /// CPPR of a thread's ring is set.
 pub fn cppr_line(board: &Board, words: &mut Words) -> Result<Work, Misread>
-    ensures { result ≡ cppr_line_of board.now words.old }
+    ensures { (at : List ℕ) → result ≡ walk at (two (thread board.now) byte (λ t value. does (ops.Tima t os_page os_cppr 1 (Store value)))) words.old }
 {
-    tima_byte(board, TM_OS_CPPR, words)
+    byte_of(board, TM_OS_CPPR, words)
 }
 
 /// A priority is made pending in a thread's ring.
 pub fn inject_line(board: &Board, words: &mut Words) -> Result<Work, Misread>
-    ensures { result ≡ inject_line_of board.now words.old }
+    ensures { (at : List ℕ) → result ≡ walk at (two (thread board.now) byte (λ t value. does (ops.Tima t os_page set_pending 1 (Store value)))) words.old }
 {
-    tima_byte(board, TM_SET_PENDING, words)
+    byte_of(board, TM_SET_PENDING, words)
+}
+
+/// A load of a thread from a page of the TIMA.
+pub fn tima_load_line(board: &Board, words: &mut Words) -> Result<Work, Misread>
+    ensures { (at : List ℕ) → result ≡ walk at (load_words board.now) words.old }
+{
+    let t = words.bounded(0, board.limits.threads as u64)?;
+    let page = words.page(TM_PAGES)?;
+    let offset = words.offset()?;
+    let size = words.size()?;
+    words.done()?;
+    Ok(Work::once(Op::Tima {
+        t,
+        page,
+        offset,
+        size,
+        access: Access::Load,
+    }))
+}
+
+/// A store of a thread on a page of the TIMA.
+pub fn tima_store_line(board: &Board, words: &mut Words) -> Result<Work, Misread>
+    ensures { (at : List ℕ) → result ≡ walk at (store_words board.now) words.old }
+{
+    let t = words.bounded(0, board.limits.threads as u64)?;
+    let page = words.page(TM_PAGES)?;
+    let offset = words.offset()?;
+    let size = words.size()?;
+    let value = words.value(size)?;
+    words.done()?;
+    Ok(Work::once(Op::Tima {
+        t,
+        page,
+        offset,
+        size,
+        access: Access::Store { value },
+    }))
 }

@@ -32,6 +32,8 @@ pub enum Turn {
 pub enum Stage {
     Header { turn: Turn },
     Work,
+    /// A line of work, but no further `start`.
+    Started,
     Ended,
 }
 
@@ -119,11 +121,11 @@ pub(crate) fn advance(stage: &mut Stage, board: &mut Board, said: &Said)
     ensures board { board.new ≡ board_after stage.old said.now board.old }
 {
     match *stage {
-        Stage::Work => {
-            if let Said::End = said {
-                *stage = Stage::Ended;
-            }
-        }
+        Stage::Work | Stage::Started => match said {
+            Said::Start => *stage = Stage::Started,
+            Said::End => *stage = Stage::Ended,
+            _ => {}
+        },
         Stage::Header { turn } => {
             extend(board, turn, said);
             *stage = after_header_line(turn, said);

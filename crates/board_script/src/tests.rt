@@ -1,5 +1,6 @@
 //! Scripts, spellings and refusals, by what the lines are about.
 
+mod causes;
 mod configuring;
 mod memory;
 mod pages;
@@ -11,6 +12,7 @@ mod spellings;
 
 ghost use Rattle.std.specs.Prelude.{◌≡◌, true};
 ghost use Rattle.board_script.specs.Work.{AsksBelow};
+ghost use Rattle.xv_model.specs.board.Boards.{IsBoard};
 
 use crate::faults::ScriptFault;
 use crate::lines::{Line, Said, read};
@@ -125,10 +127,12 @@ pub fn assert_read(rt: &impl Abort, lines: &[&[u8]], good: bool) {
 }
 
 /// Where a line is refused at a stage on a board, from byte 1 on; 0 where it is read.
-pub fn place_at(stage: Stage, board: &Board, line: &[u8]) -> usize {
+pub fn place_at(stage: Stage, board: &Board, line: &[u8]) -> usize
+    requires { IsBoard board.now }
+{
     match read(stage, board, line, &mut Said::Nothing) {
         Ok(_) => 0,
-        Err(misread) => misread.byte(line),
+        Err(misread) => line.len().saturating_sub(misread.left) + 1,
     }
 }
 

@@ -4,7 +4,7 @@ ghost use Rattle.std.specs.Prelude.{◌≡◌, ◌≤◌, length};
 ghost use Rattle.std.specs.List.{list_all};
 ghost use Rattle.board_script.specs.Words.{may_stand, from_unprintable, skip, word_len, is_word};
 
-use crate::faults::Misread;
+use crate::faults::{Cause, Misread};
 use std::marker::Model;
 
 /// The words of a line that are not read yet. A contract sees the bytes from the next word on.
@@ -106,7 +106,8 @@ pub fn same(word: &[u8], name: &[u8]) -> bool
 }
 
 impl<'a> Words<'a> {
-    ghost use Rattle.board_script.specs.Words.{says_nothing as nothing_said, word_of, rest_of, misread_at, done_at, name_at};
+    ghost use Rattle.board_script.specs.Words.{says_nothing as nothing_said, word_of, rest_of};
+    ghost use Rattle.board_script.specs.Grammar.{done_at};
 
     /// The words of a line.
     pub fn new(line: &'a [u8]) -> Words<'a>
@@ -127,13 +128,11 @@ impl<'a> Words<'a> {
         }
     }
 
-    /// Refuses the line at the next word, or where one is missing.
-    pub fn here(&self) -> Misread
-        ensures { result ≡ misread_at self.now }
+    /// How many bytes of the line are left, from the next word on.
+    pub fn left(&self) -> usize
+        ensures { result ≡ length self.now }
     {
-        Misread {
-            left: self.rest.len(),
-        }
+        self.rest.len()
     }
 
     /// Reads the next word, empty where there is none.
@@ -152,22 +151,11 @@ impl<'a> Words<'a> {
         ensures { result ≡ done_at self.now }
     {
         if self.rest.is_empty() {
-            Ok(())
-        } else {
-            Err(self.here())
+            return Ok(());
         }
-    }
-
-    /// Reads a word that has to be this one.
-    pub fn name(&mut self, name: &[u8]) -> Result<(), Misread>
-        ensures value { result ≡ name_at name.now self.old }
-        ensures rest { self.new ≡ rest_of self.old }
-    {
-        let here = self.here();
-        if same(self.next(), name) {
-            Ok(())
-        } else {
-            Err(here)
-        }
+        Err(Misread {
+            cause: Cause::ExtraWord,
+            left: self.rest.len(),
+        })
     }
 }

@@ -168,8 +168,8 @@ impl Work {
         }
     }
 
-    /// A line that drains begins with the first source.
-    fn begin(&mut self)
+    /// Before the first operation: a line that drains begins with the first source.
+    pub fn begin(&mut self)
         ensures { self.new ≡ at_place 0 self.old }
     {
         if let Then::Drain { from, .. } = &mut self.then {

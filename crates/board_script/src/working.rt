@@ -1,31 +1,72 @@
 //! Lines after the header.
 
-ghost use Rattle.std.specs.Prelude.{◌≡◌, OnErr};
+ghost use Rattle.std.specs.Prelude.{◌≡◌, ℕ, List, length, OnErr};
+ghost use Rattle.xv_model.specs.board.Boards.{IsBoard};
 ghost use Rattle.board_script.specs.Words.{answer_with};
-ghost use Rattle.board_script.specs.Working.{move_steps_by, ring_steps_by, rare_steps_by, steps_by, work_of};
+ghost use Rattle.board_script.specs.Grammar.{read_at, refused_at};
+ghost use Rattle.board_script.specs.FirstWords.{out_of_turn as cause_of};
+ghost use Rattle.board_script.specs.Operations.{move_rows, rare_rows, ring_rows, rows, unbuilt_rows};
+ghost use Rattle.board_script.specs.Working.{actor_by, words_after, work_by, work_of};
 
 use crate::configuring::{endset, hcall};
-use crate::faults::Misread;
+use crate::faults::{Cause, Misread};
+use crate::first_words::out_of_turn;
 use crate::lines::Said;
 use crate::memory::{peek_line, read_line, zero_line};
-use crate::numbers::bounded;
+use crate::numbers::number;
 use crate::pages::{end_page_line, source_page_line};
 use crate::processors::{
     ack_line, connect_line, cppr_line, drain_line, inject_line, pull_line, push_line, regs_line,
-    restore_line, save_line, settle_line, take_line,
+    restore_line, save_line, settle_line, take_line, tima_load_line, tima_store_line,
 };
 use crate::sources::{
     access_line, assert_line, init_line, level_line, quiet_line, route_line, set_line, sync_line,
     then_route,
 };
+use crate::unbuilt::{bare_line, kvmeq_line, kvmget_line, kvmset_line, vpget_line, vpset_line};
 use crate::words::{Words, same};
 use crate::work::Work;
 use xv_model::board::Board;
 use xv_model::operations::PqOp;
 
-/// The work of a line that moves the context of a processor, by its name; an unknown one is refused `here`.
-fn named_move(board: &Board, here: Misread, name: &[u8], words: &mut Words) -> Result<Work, Misread>
-    ensures { result ≡ move_steps_by board.now here name.now words.old }
+/// The work of a line that isn't built yet, by its name; an unknown name is refused, where so many bytes are left.
+fn named_unbuilt(
+    board: &Board,
+    left: usize,
+    name: &[u8],
+    words: &mut Words,
+) -> Result<Work, Misread>
+    ensures { (at : List ℕ) → length at ≡ left
+        → result ≡ work_by at (words_after (unbuilt_rows board.now) name.now) words.old }
+{
+    if same(name, b"reset") || same(name, b"migrate") {
+        return bare_line(left, words);
+    }
+    if same(name, b"kvmset") {
+        return kvmset_line(left, words);
+    }
+    if same(name, b"kvmeq") {
+        return kvmeq_line(left, words);
+    }
+    if same(name, b"kvmget") {
+        return kvmget_line(left, words);
+    }
+    if same(name, b"vpget") {
+        return vpget_line(board, left, words);
+    }
+    if same(name, b"vpset") {
+        return vpset_line(board, left, words);
+    }
+    Err(Misread {
+        cause: Cause::UnknownWord,
+        left,
+    })
+}
+
+/// The work of a line that moves the context of a processor, by its name.
+fn named_move(board: &Board, left: usize, name: &[u8], words: &mut Words) -> Result<Work, Misread>
+    ensures { (at : List ℕ) → length at ≡ left
+        → result ≡ work_by at (words_after (move_rows board.now) name.now) words.old }
 {
     if same(name, b"push") {
         return push_line(board, words);
@@ -42,29 +83,26 @@ fn named_move(board: &Board, here: Misread, name: &[u8], words: &mut Words) -> R
     if same(name, b"save") {
         return save_line(board, words);
     }
-    Err(here)
+    named_unbuilt(board, left, name, words)
 }
 
 /// The work of a line, by a name that comes less often.
-fn named_rarely(
-    board: &Board,
-    here: Misread,
-    name: &[u8],
-    words: &mut Words,
-) -> Result<Work, Misread>
-    ensures { result ≡ rare_steps_by board.now here name.now words.old }
+fn named_rarely(board: &Board, left: usize, name: &[u8], words: &mut Words) -> Result<Work, Misread>
+    requires { IsBoard board.now }
+    ensures { (at : List ℕ) → length at ≡ left
+        → result ≡ work_by at (words_after (rare_rows board.now) name.now) words.old }
 {
     if same(name, b"raise") {
-        return level_line(board, here, PqOp::Raise, words);
+        return level_line(board, left, PqOp::Raise, words);
     }
     if same(name, b"lower") {
-        return level_line(board, here, PqOp::Lower, words);
+        return level_line(board, left, PqOp::Lower, words);
     }
     if same(name, b"assert") {
-        return assert_line(board, here, words);
+        return assert_line(board, left, words);
     }
     if same(name, b"init") {
-        return init_line(board, here, words);
+        return init_line(board, left, words);
     }
     if same(name, b"endload") {
         return end_page_line(board, false, words);
@@ -79,22 +117,24 @@ fn named_rarely(
         return zero_line(words);
     }
     if same(name, b"endset") {
-        return endset(board, here, words);
+        return endset(board, left, words);
     }
     if same(name, b"hcall") {
-        return hcall(words);
+        return hcall(left, words);
     }
-    named_move(board, here, name, words)
+    named_move(board, left, name, words)
 }
 
 /// The work of a line on messages or on the ring of a thread, by its name.
 fn named_on_ring(
     board: &Board,
-    here: Misread,
+    left: usize,
     name: &[u8],
     words: &mut Words,
 ) -> Result<Work, Misread>
-    ensures { result ≡ ring_steps_by board.now here name.now words.old }
+    requires { IsBoard board.now }
+    ensures { (at : List ℕ) → length at ≡ left
+        → result ≡ work_by at (words_after (ring_rows board.now) name.now) words.old }
 {
     if same(name, b"settle") {
         return settle_line(words);
@@ -123,13 +163,21 @@ fn named_on_ring(
     if same(name, b"drain") {
         return drain_line(board, words);
     }
-    named_rarely(board, here, name, words)
+    if same(name, b"tload") {
+        return tima_load_line(board, words);
+    }
+    if same(name, b"tstore") {
+        return tima_store_line(board, words);
+    }
+    named_rarely(board, left, name, words)
 }
 
 /// The work of a line, by the name of its operation and what stands after it. The names that come most often
 /// are tried first.
-fn named(board: &Board, here: Misread, name: &[u8], words: &mut Words) -> Result<Work, Misread>
-    ensures { result ≡ steps_by board.now here name.now words.old }
+fn named(board: &Board, left: usize, name: &[u8], words: &mut Words) -> Result<Work, Misread>
+    requires { IsBoard board.now }
+    ensures { (at : List ℕ) → length at ≡ left
+        → result ≡ work_by at (words_after (rows board.now) name.now) words.old }
 {
     if same(name, b"fire") {
         return then_route(board, PqOp::Trigger, words);
@@ -161,25 +209,62 @@ fn named(board: &Board, here: Misread, name: &[u8], words: &mut Words) -> Result
     if same(name, b"read") {
         return read_line(board, words);
     }
-    named_on_ring(board, here, name, words)
+    named_on_ring(board, left, name, words)
 }
 
-/// Puts what a line after the header says into `said`: the end of the script, or an actor and its work.
-pub fn work_line(board: &Board, words: &mut Words, said: &mut Said) -> Result<(), Misread>
-    ensures value { answer_with result said.new ≡ work_of board.now words.old }
+/// The actor that a first word names; another word is refused, where so many bytes are left.
+fn actor(board: &Board, left: usize, word: &[u8]) -> Result<u32, Misread>
+    ensures { (at : List ℕ) → length at ≡ left → result ≡ read_at at (actor_by board.now word.now) }
+{
+    match number(word) {
+        Some(n) => {
+            if n < board.limits.actors as u64 {
+                Ok(n as u32)
+            } else {
+                Err(Misread {
+                    cause: Cause::OutOfRange,
+                    left,
+                })
+            }
+        }
+        None => Err(Misread {
+            cause: out_of_turn(word),
+            left,
+        }),
+    }
+}
+
+/// Puts what a line after the header says into `said`: the end of the script, the start of its second half, which
+/// comes once at most, or an actor and its work.
+pub fn work_line(
+    board: &Board,
+    started: bool,
+    words: &mut Words,
+    said: &mut Said,
+) -> Result<(), Misread>
+    requires { IsBoard board.now }
+    ensures value { answer_with result said.new ≡ work_of board.now started words.old }
     ensures unchanged { OnErr result (said.new ≡ said.old) }
 {
-    let here = words.here();
+    let left = words.left();
     let word = words.next();
     if same(word, b"end") {
         words.done()?;
         *said = Said::End;
         return Ok(());
     }
-    let actor = bounded(here, word, 0, board.limits.actors)?;
-    let here = words.here();
+    if same(word, b"start") && !started {
+        words.done()?;
+        *said = Said::Start;
+        return Ok(());
+    }
+    let actor = actor(board, left, word)?;
+    let left = words.left();
+    words.some()?;
     let name = words.next();
-    let work = named(board, here, name, words)?;
-    *said = Said::Work { actor, work };
+    *said = Said::Work {
+        actor,
+        work: named(board, left, name, words)?,
+    };
     Ok(())
 }

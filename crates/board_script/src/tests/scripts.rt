@@ -58,14 +58,35 @@ fn names_the_line_of_a_fault(rt: HostRuntime) {
     ];
     let fault = ScriptFault {
         line: 4,
-        byte: 1,
-        cause: Cause::NotBuilt,
+        byte: 9,
+        cause: Cause::OutOfRange,
     };
     assert_eq!(rt; first_fault(&mut parser, &lines), Some(fault));
     assert_eq!(rt; parser.finish(), Err(fault));
+    let missing = ScriptFault {
+        line: 4,
+        byte: 1,
+        cause: Cause::NoGo,
+    };
     let mut short = Parser::new(false);
     assert!(rt; first_fault(&mut short, &lines[..3]).is_none());
-    assert_eq!(rt; short.finish(), Err(fault));
-    assert!(rt; matches!(short.feed(b"sources 1"), Err(f) if f == fault));
-    assert_eq!(rt; short.finish(), Err(fault));
+    assert_eq!(rt; short.finish(), Err(missing));
+    assert!(rt; matches!(short.feed(b"sources 1"), Err(f) if f == missing));
+    assert_eq!(rt; short.finish(), Err(missing));
+}
+
+#[test]
+fn reads_on_behind_a_header(rt: HostRuntime) {
+    let header = after_header(&rt);
+    let mut parser = Parser::after_go(header.board());
+    assert!(rt; matches!(parser.feed(b"0 get 8191"), Ok(Line::Work { actor: 0, .. })));
+    assert!(rt; matches!(parser.feed(b"start"), Ok(Line::Start)));
+    assert_eq!(rt; parser.finish(), Ok(()));
+    let again = ScriptFault {
+        line: 3,
+        byte: 1,
+        cause: Cause::WrongPlace,
+    };
+    assert!(rt; matches!(parser.feed(b"start"), Err(fault) if fault == again));
+    assert_eq!(rt; parser.finish(), Err(again));
 }

@@ -27,7 +27,8 @@ fn reads_and_refuses_spellings(rt: HostRuntime) {
         (b"0 set 0 011", false),
         (b"0 Get 0", false),
         (b"end 0", false),
-        (b"start", false),
+        (b"start", true),
+        (b"start 0", false),
         (b"go", false),
     ];
     for (line, good) in lines {
@@ -50,7 +51,7 @@ fn names_the_place_of_a_refusal(rt: HostRuntime) {
         (b"0 set 0 2", 9),
         (b"0 endset 0 - 0 1 0 0 0 0", 3),
         (b"0 endset 0 vv 0 0 0 0 0 0", 12),
-        (b"0 hcall 0 0 0 0 0 0", 9),
+        (b"0 hcall 0 0 0 0 0 0", 3),
         (b"end 0", 5),
         (b"0 get\t0", 6),
     ];
