@@ -17,7 +17,7 @@ use Rattle.board_script.specs.declared.faults.ScriptFault.{ScriptFault}
 use Rattle.board_script.specs.declared.lines.Said.{Said}
 use Rattle.board_script.specs.declared.lines.Said.TheVariants as said
 use Rattle.board_script.specs.declared.stage.Stage.{Stage}
-use Rattle.board_script.specs.declared.stage.Stage.TheVariants.{Header, Work, Ended}
+use Rattle.board_script.specs.declared.stage.Stage.TheVariants.{Header, Work, Started, Ended}
 use Rattle.board_script.specs.Lines.{Reading, said_of}
 use Rattle.board_script.specs.Stage.{stage_after, board_after}
 use Rattle.board_script.specs.Parser.{Parsing, read_of, parsing_after, parsing_from, parsing_by, finished, board_by, whole_board}
@@ -33,21 +33,26 @@ use Rattle.xive_cli.specs.commands.Run.{told_by, output_of, refusal_of}
 some_board : (stage : Stage) (c b : Board) → board_by stage c ≡ Some b → Some c ≡ Some b
 some_board (Header turn) c b e = absurd cc
 some_board Work c b e = e
+some_board Started c b e = e
 some_board Ended c b e = e
 
 stays_whole : (stage : Stage) (c b : Board) (it : Said) → board_by stage c ≡ Some b → board_by (stage_after stage it) (board_after stage it c) ≡ Some b
 stays_whole (Header turn) c b it e = absurd cc
 stays_whole Work c b said.End e = e
+stays_whole Work c b said.Start e = e
 stays_whole Work c b it e = e
+stays_whole Started c b said.End e = e
+stays_whole Started c b said.Start e = e
+stays_whole Started c b it e = e
 stays_whole Ended c b it e = e
 
-by_whole : (p : Parsing) (b : Board) (r : Reading) → whole_board p ≡ Some b → whole_board (parsing_by p r) ≡ Some b
-by_whole p b (Ok it) e = stays_whole p.stage p.board b it e
-by_whole p b (Err m) e = e
+by_whole : (p : Parsing) (b : Board) (l : List ℕ) (r : Reading) → whole_board p ≡ Some b → whole_board (parsing_by p l r) ≡ Some b
+by_whole p b l (Ok it) e = stays_whole p.stage p.board b it e
+by_whole p b l (Err m) e = e
 
 from_whole : (f : Option ScriptFault) (p : Parsing) (b : Board) (l : List ℕ) → whole_board p ≡ Some b → whole_board (parsing_from f p l) ≡ Some b
 from_whole (Some fault) p b l e = e
-from_whole None p b l e = by_whole p b (said_of p.stage p.board l) e
+from_whole None p b l e = by_whole p b l (said_of p.stage p.board l) e
 
 board_ended : (r : Result (Unit {0}) ScriptFault) (p : Parsing) (work : List WorkLine) (b : Board) → whole_board p ≡ Some b → board_in (ended_by r p work) ≡ Some b
 board_ended (Ok it) p work b e = some_board p.stage p.board b e

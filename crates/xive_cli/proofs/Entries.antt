@@ -1,5 +1,5 @@
 -- One more entry of a work line.
-use Rattle.std.proofs.Common.{ℕ, ◌≡◌, ◌<◌, ◌≤◌, List, ◌∷◌, ◌++◌, Option, Some, true, refl, sym, ◌∙◌, ap, subst, arith}
+use Rattle.std.proofs.Common.{ℕ, ◌≡◌, ◌<◌, ◌≤◌, List, [], ◌∷◌, ◌++◌, Option, Some, true, refl, sym, ◌∙◌, ap, subst, arith}
 use Rattle.xv_model.specs.declared.board.Board.{Board}
 use Rattle.xv_model.specs.declared.operations.Op.{Op}
 use Rattle.xv_model.specs.declared.outcomes.Outcome.{Outcome}
@@ -8,17 +8,19 @@ use Rattle.xv_model.specs.account.Start.{Start}
 use Rattle.xv_model.specs.account.Burden.{burden}
 use Rattle.xv_model.specs.account.Fit.{IsFitStart}
 use Rattle.xv_model.specs.account.Index.{next_index}
-use Rattle.xv_model.specs.account.Legal.{legal}
+use Rattle.xv_model.specs.account.Legal.{IsLegal, legal}
 use Rattle.xv_model.specs.board.Validity.{valid}
 use Rattle.account.specs.text.Entry.{entry_line}
 use Rattle.machine.proofs.Burdens.{burden_of-is}
 use Rattle.machine.specs.Machine.{Held, StandsFor, burden_of}
 use Rattle.board_script.specs.declared.work.Work.{Work}
 use Rattle.board_script.specs.Script.{WorkLine, line_for}
-use Rattle.board_script.specs.Work.{next_op, load, Falls}
+use Rattle.board_script.specs.Lines.{IsWork}
+use Rattle.board_script.specs.Work.{next_op, load, Falls, at_place}
+use Rattle.board_script.proofs.WorkLines.{first_valid}
 use Rattle.xive_cli.specs.Output.{Told, Tells, Fails}
 use Rattle.xive_cli.specs.Line.{entry_of, TellsEntry, FailsEntry, part_text, IsLegalPart, RunsPart}
-use Rattle.xive_cli.proofs.Telling.{tells_both, fails_after}
+use Rattle.xive_cli.proofs.Telling.{tells_nothing, tells_both, fails_after}
 
 -- the line makes this operation next, on the board of the machine
 pub record MakesNext (w : WorkLine) (m : Held) (o : Op) (z : Start) (before part : List Entry) : Type 0 where
@@ -40,6 +42,21 @@ goes_legally w m o outcome z before part p st n e = record {
     },
   );
 }
+
+-- no entry of a line was made yet
+pub runs_none : (w : WorkLine) (m : Held) (t : Told) (z : Start) (before : List Entry) → StandsFor m z before → IsLegal z before → RunsPart w m t t z before []
+runs_none w m t z before st legal = record { is_part = record { begins = tt; legal = legal }; stands = st; tells = tells_nothing t }
+
+-- a line that has begun makes its first operation next
+pub makes_first : (w : WorkLine) (going : Work) (m : Held) (z : Start) (before : List Entry) → going ≡ at_place 0 w.work → IsWork m.fabric.tables.board w.actor w.work → MakesNext w m going.first z before []
+makes_first w going m z before same is =
+    let b = m.fabric.tables.board in
+    let first : going.first ≡ w.work.first = ap (λ v. v.first) same in
+    record {
+      next = ap (λ o. Some o) (sym first);
+      actor = is.actor_is;
+      valid_op = subst (λ o. valid b o ≡ true) (sym first) (first_valid w.work b is.valid_steps);
+    }
 
 -- one more entry was made, and its line was told
 pub entry_ran : (w : WorkLine) (m m' : Held) (o : Op) (outcome : Outcome) (t0 t t' : Told) (z : Start) (before part : List Entry) → RunsPart w m t0 t z before part → MakesNext w m o z before part →

@@ -6,7 +6,7 @@ use Rattle.board_script.specs.declared.lines.Said.TheVariants as said
 use Rattle.board_script.specs.declared.stage.Turn.{Turn}
 use Rattle.board_script.specs.declared.stage.Turn.TheVariants as turns
 use Rattle.board_script.specs.declared.stage.Stage.{Stage}
-use Rattle.board_script.specs.declared.stage.Stage.TheVariants.{Header, Work, Ended}
+use Rattle.board_script.specs.declared.stage.Stage.TheVariants.{Header, Work, Started, Ended}
 use Rattle.xv_model.specs.declared.board.Span.{Span}
 use Rattle.board_script.specs.declared.work.Work.{Work as AWork}
 use Rattle.board_script.specs.Lines.{IsSaidAt, IsHeaderSaid}
@@ -26,11 +26,13 @@ use Rattle.xive_cli.proofs.Going.{goes_further, script_behind}
 pub open_header : (stage : Stage) → IsInHeader stage → IsOpen stage
 open_header (Header turn) h = tt
 open_header Work h = tt
+open_header Started h = tt
 open_header Ended h = h
 
 header_board : (stage : Stage) (b : Board) → IsInHeader stage → board_by stage b ≡ None
 header_board (Header turn) b h = refl
 header_board Work b h = absurd h
+header_board Started b h = absurd h
 header_board Ended b h = absurd h
 
 end_said : (turn : Turn) (b : Board) → IsHeaderSaid turn b said.End → ⊥
@@ -47,12 +49,26 @@ work_said _ b actor w f = f
 pub no_end : (stage : Stage) (b : Board) → IsInHeader stage → IsSaidAt stage b said.End → ⊥
 no_end (Header turn) b h f = end_said turn b f
 no_end Work b h f = h
+no_end Started b h f = h
 no_end Ended b h f = h
+
+start_said : (turn : Turn) (b : Board) → IsHeaderSaid turn b said.Start → ⊥
+start_said turns.Level b f = f
+start_said turns.Unclaimed b f = f
+start_said _ b f = f
+
+-- and no start
+pub no_start : (stage : Stage) (b : Board) → IsInHeader stage → IsSaidAt stage b said.Start → ⊥
+no_start (Header turn) b h f = start_said turn b f
+no_start Work b h f = h
+no_start Started b h f = h
+no_start Ended b h f = h
 
 -- and no work
 pub no_work : (stage : Stage) (b : Board) (actor : ℕ) (w : AWork) → IsInHeader stage → IsSaidAt stage b (said.Work actor w) → ⊥
 no_work (Header turn) b actor w h f = work_said turn b actor w f
 no_work Work b actor w h f = h
+no_work Started b actor w h f = h
 no_work Ended b actor w h f = h
 
 -- the stage behind a line of the header
@@ -63,36 +79,43 @@ StageBehind _ stage = IsInHeader stage
 after_go : (stage : Stage) → IsInHeader stage → stage_after stage said.Go ≡ Work
 after_go (Header turn) h = refl
 after_go Work h = absurd h
+after_go Started h = absurd h
 after_go Ended h = absurd h
 
 after_number : (stage : Stage) (n : ℕ) → IsInHeader stage → IsInHeader (stage_after stage (said.Number n))
 after_number (Header turn) n h = tt
 after_number Work n h = h
+after_number Started n h = h
 after_number Ended n h = h
 
 after_pages : (stage : Stage) (two store : Bool) → IsInHeader stage → IsInHeader (stage_after stage (said.Pages two store))
 after_pages (Header turn) two store h = tt
 after_pages Work two store h = h
+after_pages Started two store h = h
 after_pages Ended two store h = h
 
 after_level : (stage : Stage) (span : Span) → IsInHeader stage → IsInHeader (stage_after stage (said.Level span))
 after_level (Header turn) span h = tt
 after_level Work span h = h
+after_level Started span h = h
 after_level Ended span h = h
 
 after_unclaimed : (stage : Stage) (span : Span) → IsInHeader stage → IsInHeader (stage_after stage (said.Unclaimed span))
 after_unclaimed (Header turn) span h = tt
 after_unclaimed Work span h = h
+after_unclaimed Started span h = h
 after_unclaimed Ended span h = h
 
 after_unconnected : (stage : Stage) (span : Span) → IsInHeader stage → IsInHeader (stage_after stage (said.Unconnected span))
 after_unconnected (Header turn) span h = tt
 after_unconnected Work span h = h
+after_unconnected Started span h = h
 after_unconnected Ended span h = h
 
 after_nothing : (stage : Stage) → IsInHeader stage → IsInHeader (stage_after stage said.Nothing)
 after_nothing (Header turn) h = tt
 after_nothing Work h = h
+after_nothing Started h = h
 after_nothing Ended h = h
 
 -- one line of the header
@@ -112,6 +135,7 @@ header_line a b (said.Level span) h s = record { goes = s.next.goes []; rises = 
 header_line a b (said.Unclaimed span) h s = record { goes = s.next.goes []; rises = s.next.rises; stage = still _ _ s.next.stage (after_unclaimed a.parser.stage span h) }
 header_line a b (said.Unconnected span) h s = record { goes = s.next.goes []; rises = s.next.rises; stage = still _ _ s.next.stage (after_unconnected a.parser.stage span h) }
 header_line a b said.Go h s = record { goes = s.next.goes []; rises = s.next.rises; stage = s.next.stage ∙ after_go a.parser.stage h }
+header_line a b said.Start h s = absurd (no_start a.parser.stage a.parser.board h s.fits)
 header_line a b said.End h s = absurd (no_end a.parser.stage a.parser.board h s.fits)
 header_line a b (said.Work actor w) h s = absurd (no_work a.parser.stage a.parser.board actor w h s.fits)
 
@@ -167,5 +191,6 @@ header_goes_on (said.Pages two store) stage n s = s
 header_goes_on (said.Level span) stage n s = s
 header_goes_on (said.Unclaimed span) stage n s = s
 header_goes_on (said.Unconnected span) stage n s = s
+header_goes_on said.Start stage n s = s
 header_goes_on said.End stage n s = s
 header_goes_on (said.Work actor w) stage n s = s

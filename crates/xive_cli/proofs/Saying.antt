@@ -8,7 +8,7 @@ use Rattle.board_script.specs.declared.faults.ScriptFault.{ScriptFault}
 use Rattle.board_script.specs.declared.lines.Said.{Said}
 use Rattle.board_script.specs.declared.lines.Said.TheVariants as said
 use Rattle.board_script.specs.declared.stage.Stage.{Stage}
-use Rattle.board_script.specs.declared.stage.Stage.TheVariants.{Header, Work, Ended}
+use Rattle.board_script.specs.declared.stage.Stage.TheVariants.{Header, Work, Started, Ended}
 use Rattle.board_script.specs.Lines.{Reading, said_of, IsSaidAt}
 use Rattle.board_script.specs.Stage.{stage_after, board_after, IsOpen}
 use Rattle.board_script.specs.Parser.{Parsing, read_of, read_by, answer_by, parsing_after, parsing_by, parsing_from, finished, finished_by}
@@ -22,13 +22,13 @@ use Rattle.xive_cli.specs.Reading.{IsScript, Says, GoesBy, GoesTo, Waits, Cannot
 use Rattle.xive_cli.proofs.Telling.{risen_from, tells_both, fails_after}
 use Rattle.xive_cli.proofs.Going.{goes_by_line, goes_further, ends_by_line, ends_by_input, script_behind}
 
-after_answer : (p : Parsing) (r : Reading) (it : Said) → answer_by p r ≡ Ok it → ((parsing_by p r).stage ≡ stage_after p.stage it) × ((parsing_by p r).board ≡ board_after p.stage it p.board)
-after_answer p (Ok it') it e = let same : it' ≡ it = cc in (ap (stage_after p.stage) same, ap (λ i. board_after p.stage i p.board) same)
-after_answer p (Err m) it e = absurd cc
+after_answer : (p : Parsing) (l : List ℕ) (r : Reading) (it : Said) → answer_by p l r ≡ Ok it → ((parsing_by p l r).stage ≡ stage_after p.stage it) × ((parsing_by p l r).board ≡ board_after p.stage it p.board)
+after_answer p l (Ok it') it e = let same : it' ≡ it = cc in (ap (stage_after p.stage) same, ap (λ i. board_after p.stage i p.board) same)
+after_answer p l (Err m) it e = absurd cc
 
 after_read : (f : Option ScriptFault) (p : Parsing) (l : List ℕ) (it : Said) → read_by f p l ≡ Ok it → ((parsing_from f p l).stage ≡ stage_after p.stage it) × ((parsing_from f p l).board ≡ board_after p.stage it p.board)
 after_read (Some fault) p l it e = absurd cc
-after_read None p l it e = after_answer p (said_of p.stage p.board l) it e
+after_read None p l it e = after_answer p l (said_of p.stage p.board l) it e
 
 -- a line was given, and this is read of it
 pub record GivesSaid (a : Unread) (it : Said) (b : Unread) : Type 0 where
@@ -61,12 +61,14 @@ says_line a b (said.Level span) g f = record { fits = f; next = goes_by a b (sai
 says_line a b (said.Unclaimed span) g f = record { fits = f; next = goes_by a b (said.Unclaimed span) g tt }
 says_line a b (said.Unconnected span) g f = record { fits = f; next = goes_by a b (said.Unconnected span) g tt }
 says_line a b said.Go g f = record { fits = f; next = goes_by a b said.Go g tt }
+says_line a b said.Start g f = record { fits = f; next = goes_by a b said.Start g tt }
 says_line a b (said.Work actor w) g f = record { fits = f; next = goes_by a b (said.Work actor w) g tt }
 
 end_fits : (f : Option ScriptFault) (stage : Stage) (b : Board) (n : ℕ) → IsOpen stage → finished_by f stage n ≡ Ok tt → IsSaidAt stage b said.End
 end_fits (Some fault) stage b n o e = absurd cc
 end_fits None (Header turn) b n o e = absurd cc
 end_fits None Work b n o e = tt
+end_fits None Started b n o e = tt
 end_fits None Ended b n o e = absurd o
 
 -- the input is over, which ends the script as a line does
@@ -107,6 +109,7 @@ says_from a u b (said.Level span) goes p given s = record { fits = fits_from a u
 says_from a u b (said.Unclaimed span) goes p given s = record { fits = fits_from a u (said.Unclaimed span) p s.fits; next = goes_by_from a u b (said.Unclaimed span) goes p given s.next }
 says_from a u b (said.Unconnected span) goes p given s = record { fits = fits_from a u (said.Unconnected span) p s.fits; next = goes_by_from a u b (said.Unconnected span) goes p given s.next }
 says_from a u b said.Go goes p given s = record { fits = fits_from a u said.Go p s.fits; next = goes_by_from a u b said.Go goes p given s.next }
+says_from a u b said.Start goes p given s = record { fits = fits_from a u said.Start p s.fits; next = goes_by_from a u b said.Start goes p given s.next }
 says_from a u b (said.Work actor w) goes p given s = record { fits = fits_from a u (said.Work actor w) p s.fits; next = goes_by_from a u b (said.Work actor w) goes p given s.next }
 
 -- what cannot go on after more was read stops

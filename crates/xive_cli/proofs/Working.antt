@@ -1,11 +1,15 @@
 -- The work of a script, line after line.
-use Rattle.std.proofs.Common.{ℕ, ◌≡◌, ◌≤◌, List, [], ◌∷◌, ◌++◌, Option, Some, refl, sym, ◌∙◌, ap, subst, append-nil}
+use Rattle.std.proofs.Common.{ℕ, ◌≡◌, ◌≤◌, ◌<◌, ◌⊎◌, inl, inr, List, [], ◌∷◌, ◌++◌, Option, Some, refl, sym, ◌∙◌, ap, subst, append-nil}
 use Rattle.xv_model.specs.declared.board.Board.{Board}
 use Rattle.xv_model.specs.account.Start.{start}
 use Rattle.account.specs.Account.{header_text}
 use Rattle.machine.specs.Machine.{Held, StandsFor}
 use Rattle.board_script.specs.declared.lines.Said.TheVariants as said
-use Rattle.board_script.specs.declared.stage.Stage.TheVariants.{Work}
+use Rattle.board_script.specs.declared.lines.Said.{Said}
+use Rattle.board_script.specs.declared.stage.Stage.{Stage}
+use Rattle.board_script.specs.declared.stage.Stage.TheVariants.{Header, Work, Started, Ended}
+use Rattle.board_script.specs.Stage.{IsWorking, stage_after, board_after}
+use Rattle.board_script.proofs.Reading.{IsNotEnd}
 use Rattle.board_script.specs.Parser.{Parsing, board_by, whole_board}
 use Rattle.board_script.specs.Script.{Script, Accepted, Refused as Rejected, TooLong as Exceeds, SoFar, WorkLine, so_far}
 use Rattle.xive_cli.specs.declared.stop.Stop.{Stop}
@@ -13,7 +17,7 @@ use Rattle.xive_cli.specs.declared.stop.Stop.TheVariants.{ReadFault, WriteFault,
 use Rattle.xive_cli.specs.Input.{Unread, script_left}
 use Rattle.xive_cli.specs.Output.{Told, Tells, Fails}
 use Rattle.xive_cli.specs.Line.{RunsLine, FailsLine, part_text}
-use Rattle.xive_cli.specs.Reading.{GoesOn, GoesBy, IsScript, StopsReading}
+use Rattle.xive_cli.specs.Reading.{GoesOn, GoesBy, IsScript, Says, StopsReading}
 use Rattle.xive_cli.specs.Stop.{Stops, EndsEarly, FailsWriting, BeginsOutput}
 use Rattle.xive_cli.specs.Work.{RunsSoFar, RunsAllWork}
 use Rattle.xive_cli.specs.commands.Run.{told_by}
@@ -22,8 +26,56 @@ use Rattle.xive_cli.proofs.Going.{goes_nowhere, goes_further, script_behind}
 use Rattle.xive_cli.proofs.Beginning.{told_part, first_of_work, first_of_line}
 
 -- the parser is at work on a board
-pub whole_at : (p : Parsing) (b : Board) → p.stage ≡ Work → p.board ≡ b → whole_board p ≡ Some b
-whole_at p b s e = ap (λ v. board_by v p.board) s ∙ ap Some e
+whole_by : (stage : Stage) (b c : Board) → IsWorking stage → c ≡ b → board_by stage c ≡ Some b
+whole_by Work b c w e = ap Some e
+whole_by Started b c w e = ap Some e
+whole_by (Header turn) b c w e = absurd w
+whole_by Ended b c w e = absurd w
+
+pub whole_at : (p : Parsing) (b : Board) → IsWorking p.stage → p.board ≡ b → whole_board p ≡ Some b
+whole_at p b w e = whole_by p.stage b p.board w e
+
+-- a line that isn't the end leaves it there
+works_on : (stage : Stage) (it : Said) → IsWorking stage → IsNotEnd it → IsWorking (stage_after stage it)
+works_on Work said.End w n = absurd n
+works_on Work said.Start w n = tt
+works_on Work it w n = tt
+works_on Started said.End w n = absurd n
+works_on Started said.Start w n = tt
+works_on Started it w n = tt
+works_on (Header turn) it w n = absurd w
+works_on Ended it w n = absurd w
+
+board_stays : (stage : Stage) (it : Said) (b : Board) → IsWorking stage → board_after stage it b ≡ b
+board_stays Work it b w = refl
+board_stays Started it b w = refl
+board_stays (Header turn) it b w = absurd w
+board_stays Ended it b w = absurd w
+
+-- the parser after such a line
+pub works_after : (a b : Unread) (it : Said) → GoesBy a it b → IsWorking a.parser.stage → IsNotEnd it → IsWorking b.parser.stage × (b.parser.board ≡ a.parser.board)
+works_after a b it by w n = (subst IsWorking (sym by.stage) (works_on a.parser.stage it w n), by.board ∙ board_stays a.parser.stage it a.parser.board w)
+
+-- what a line that makes no work leaves
+pub record MakesNoWork (a b : Unread) : Type 0 where
+  pub goes : (work : List WorkLine) → GoesOn a work b work
+  pub stage : IsWorking b.parser.stage
+  pub board : b.parser.board ≡ a.parser.board
+  pub rises : a.reader.given < b.reader.given
+
+by_nothing : (a b : Unread) → Says a said.Nothing b → IsWorking a.parser.stage → MakesNoWork a b
+by_nothing a b s w =
+    let works = works_after a b said.Nothing s.next w tt in
+    record { goes = s.next.goes; stage = works.0; board = works.1; rises = s.next.rises }
+
+by_start : (a b : Unread) → Says a said.Start b → IsWorking a.parser.stage → MakesNoWork a b
+by_start a b s w =
+    let works = works_after a b said.Start s.next w tt in
+    record { goes = s.next.goes; stage = works.0; board = works.1; rises = s.next.rises }
+
+pub no_work : (a b : Unread) (it : Said) → Says a it b → (it ≡ said.Nothing) ⊎ (it ≡ said.Start) → IsWorking a.parser.stage → MakesNoWork a b
+no_work a b it s (inl e) w = by_nothing a b (subst (λ it. Says a it b) e s) w
+no_work a b it s (inr e) w = by_start a b (subst (λ it. Says a it b) e s) w
 
 -- before the first work line
 pub nothing_ran : (b : Board) (a : Unread) (m : Held) (t t' : Told) → StandsFor m (start b) [] → Tells t (header_text b) t' → RunsSoFar b a t m a t'
@@ -34,12 +86,12 @@ nothing_ran b a m t t' stands tells = record {
   has_run = record { ran = (refl, tt); stands = stands; tells = subst (λ v. Tells t v t') (sym (append-nil (header_text b))) tells };
 }
 
--- a line that says nothing
-pub nothing_more : (b : Board) (a u v : Unread) (m : Held) (t t1 t' : Told) → RunsSoFar b a t m u t1 → GoesBy u said.Nothing v → Tells t1 [] t' → RunsSoFar b a t m v t'
-nothing_more b a u v m t t1 t' r by tells = record {
+-- a line that makes no work
+pub nothing_more : (b : Board) (a u v : Unread) (m : Held) (t t1 t' : Told) → RunsSoFar b a t m u t1 → ((work : List WorkLine) → GoesOn u work v work) → Tells t1 [] t' → RunsSoFar b a t m v t'
+nothing_more b a u v m t t1 t' r goes tells = record {
   work = r.work;
   account = r.account;
-  goes = goes_further a u v [] r.work r.work r.goes (by.goes r.work);
+  goes = goes_further a u v [] r.work r.work r.goes (goes r.work);
   has_run = record { ran = r.has_run.ran; stands = r.has_run.stands; tells = tells_still t t1 t' (told_by (Some b) r.account) r.has_run.tells tells };
 }
 

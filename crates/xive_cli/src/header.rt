@@ -39,8 +39,7 @@ pub fn read_header<S: Source, K: Sink>(
         read_line(input, output, &mut said)?;
         match said {
             Said::Go => return Ok(()),
-            Said::End => unreachable!(),
-            Said::Work { .. } => unreachable!(),
+            Said::End | Said::Start | Said::Work { .. } => unreachable!(),
             _ => {}
         }
     }

@@ -36,16 +36,10 @@ fn make_entry<K: Sink>(
     ensures sink_count { K.faults output.old.sink.now ≤ K.faults output.new.sink.now }
 {
     let index = machine.count();
-    let entry = machine.step(actor, op);
-    add_entry(
-        &mut output.writer.gathered,
-        index,
-        actor,
-        op,
-        &entry.outcome,
-    );
+    let outcome = machine.step(actor, op).outcome;
+    add_entry(&mut output.writer.gathered, index, actor, op, &outcome);
     output.writer.settle(output.sink)?;
-    Ok(entry.outcome)
+    Ok(outcome)
 }
 
 /// Runs a work line.
@@ -69,9 +63,10 @@ pub fn run_line<K: Sink>(
     ensures sink_count { K.faults output.old.sink.now ≤ K.faults output.new.sink.now }
 {
     let mut going = work;
-    let mut last: Option<Outcome> = None;
-    while let Some(op) = going.next(last.as_ref(), &*machine) {
-        last = Some(make_entry(machine, output, actor, &op)?);
+    going.begin();
+    let mut last = make_entry(machine, output, actor, &going.first)?;
+    while let Some(op) = going.next(Some(&last), &*machine) {
+        last = make_entry(machine, output, actor, &op)?;
     }
     Ok(())
 }

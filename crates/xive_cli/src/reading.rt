@@ -57,6 +57,7 @@ fn fill<S: Source, K: Sink>(input: &mut Input<'_, S>, told: &Output<'_, K>) -> R
 }
 
 /// Writes all that is gathered, and then reads once.
+#[inline(never)]
 fn read_more<S: Source, K: Sink>(
     input: &mut Input<'_, S>,
     output: &mut Output<'_, K>,

@@ -46,7 +46,7 @@ pub fn run_work<S: Source, K: Sink>(
         match said {
             Said::Work { actor, work } => run_line(machine, output, actor, work)?,
             Said::End => return Ok(()),
-            Said::Nothing => {}
+            Said::Nothing | Said::Start => {}
             _ => unreachable!(),
         }
     }

@@ -1,6 +1,6 @@
 use Rattle.std.proofs.Common.{◌≡◌, ◌≤◌, ◌+◌, ◌*◌, ◌-◌}
 use Rattle.xv_base.specs.Limits.{byte_limit}
-use Rattle.board_script.specs.declared.stage.Stage.TheVariants.{Work}
+use Rattle.board_script.specs.Stage.{IsWorking}
 use Rattle.machine.specs.Machine.{burden_of}
 use Rattle.xive_cli.specs.Input.{unread}
 use Rattle.xive_cli.specs.Output.{told}
@@ -10,7 +10,7 @@ use Rattle.xive_cli.proofs.work.run_work.Given as goal
 abbrev pub invariant-lines : goal.invariant-lines
 invariant-lines g l = record {
   runs : RunsSoFar l.fn.input.parser.board (unread l.fn.input) (told l.fn.output) l.machine (unread l.input) (told l.output);
-  stage : l.input.parser.stage ≡ Work;
+  stage : IsWorking l.input.parser.stage;
   board : l.input.parser.board ≡ l.fn.input.parser.board;
   machine : l.machine.fabric.tables.board ≡ l.fn.input.parser.board;
   few : l.machine.count + 2 * burden_of l.machine ≤ 20 * l.input.reader.given;

@@ -1,4 +1,4 @@
-//! Loads and stores on the pages of sources and of ENDs.
+//! Loads and stores on the pages of sources, of ENDs and of threads.
 
 use super::compare;
 use std::test::Fail;
@@ -52,6 +52,26 @@ fn pages_of_ends(rt: HostRuntime) -> Result<(), Fail> {
             b"8 0 endload 0 0 0x0 -> 11 10\n9 0 endload 0 0 0x800 -> 10 10\n10 0 endload 0 1 0xd00 -> 00 01\n",
             b"11 0 endstore 0 0 0x0 -> bad-offset\n12 0 endload 1 0 0x0 -> no-end\n13 0 endstore 1 0 0x0 -> bad-offset\n",
             b"end 14\nsource 0 10 2 2\nqueue 0 vq 2 0 10 01\nprocessor 0 saved 0x0 0x0 0x0\nring 0 0x0 0x0 0x0 0xff 0x0\nflight 1\nnotices 0\ndone\n",
+        ],
+    )
+}
+
+/// What is an access to a ring, and what is none, by its page, offset and size.
+#[test]
+fn pages_of_a_thread(rt: HostRuntime) -> Result<(), Fail> {
+    compare(
+        &rt,
+        rt.alloc(),
+        b"board 1\nsources 1\nprocessors 1\nthreads 1\nram 0\nactors 2\nesb 2 0\ngo\n0 tload 0 3 0x10 1\n0 tload 0 0 0x10 8\n0 tload 0 1 0x818 8\n0 restore 0 0\n0 tstore 0 2 0x18 4 0x80000400\n0 tstore 0 1 0x18 4 0x80000400\n0 tstore 0 1 0x11 1 0x7\n0 tstore 0 2 0x11 1 8\n0 tstore 0 2 0x812 1 3\n0 tload 0 0 0x10 1\n0 tload 0 1 0x16 2\n0 tload 0 2 0x18 8\n0 tload 0 2 0x12 4\n0 tload 0 2 0x20 1\n0 tload 0 1 0x810 2\n0 tload 0 2 0x810 2\n0 tload 0 1 0x818 8\nend\n",
+        Status::Done,
+        &[
+            b"xive-account 1\nsources 1\nprocessors 1\nthreads 1\nram 0\nactors 2\nesb 2 0\ngo\n",
+            b"0 0 tload 0 3 0x10 1 -> bad-access\n1 0 tload 0 0 0x10 8 -> value 0xffff00ffff\n2 0 tload 0 1 0x818 8 -> refused no-context\n3 0 restore 0 0 -> ok\n",
+            b"4 0 tstore 0 2 0x18 4 0x80000400 -> bad-access\n5 0 tstore 0 1 0x18 4 0x80000400 -> ok\n6 0 tstore 0 1 0x11 1 0x7 -> bad-access\n",
+            b"7 0 tstore 0 2 0x11 1 0x8 -> stored\n8 0 tstore 0 2 0x812 1 0x3 -> stored\n9 0 tload 0 0 0x10 1 -> value 0x80\n10 0 tload 0 1 0x16 2 -> value 0xff03\n",
+            b"11 0 tload 0 2 0x18 8 -> value 0x8000040000000000\n12 0 tload 0 2 0x12 4 -> bad-access\n13 0 tload 0 2 0x20 1 -> bad-access\n",
+            b"14 0 tload 0 1 0x810 2 -> bad-access\n15 0 tload 0 2 0x810 2 -> value 0x8003\n16 0 tload 0 1 0x818 8 -> value 0x80000400\n",
+            b"end 17\nprocessor 0 pulled 0 0x0 0x0 0x0\nring 0 0x0 0x3 0x0 0xff 0x400\nflight 0\nnotices 0\ndone\n",
         ],
     )
 }
