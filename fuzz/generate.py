@@ -1,17 +1,18 @@
 #!/usr/bin/env python3
 """Writes a random script that reaches far: queues that wrap, readers that lag, edges of memory, processors that are
-notified wherever their context is, moves out of turn, lines that are wrong.
+notified wherever their context is, moves out of turn, accesses beside what a thread's pages have, lines that are wrong.
 
     fuzz/generate.py SEED                   the script of a seed, always the same one
     fuzz/generate.py deep                   one long script: a queue of 2 MiB wraps, and is read across the wrap
 
-A script is given to the model while it is made, so that the generator knows pairs and places; nothing else comes from
-the model. A scene makes a whole script; what one line may be is in `any_line`.
+A script is given to the model while it is made, so that the generator knows pairs and places. Besides that it has the
+words of lines and their ranges from the model, to make lines that are wrong by one thing. A scene makes a whole script;
+what one line may be is in `any_line`.
 """
 import random
 import sys
 
-from model import Refused, Run
+from model import COUNTS as HEADER_COUNTS, LINES, RANGES, Refused, Run
 
 TOP = 1 << 64
 PAYLOADS = (0, 1, 0x10, 0x7f, 0x80, 0xff, 0x100, 0xff00, 0x10000, 0x1020304, 0x7f000000, 0x40000000, 0x7ffffffe,
@@ -19,6 +20,11 @@ PAYLOADS = (0, 1, 0x10, 0x7f, 0x80, 0xff, 0x100, 0xff00, 0x10000, 0x1020304, 0x7
 COUNTS = (1023, 1024, 1025, 1030, 1100, 1600, 2047, 2048, 2049, 2060, 2500, 3000, 3080)
 LAGS = (0, 0, 0, 1, 2, 5, 40, 511, 1022, 1023, 1023, 1024, 1024, 1025, 1026, 1500, 2047, 2048, 2049, 2050, 2600)
 ODD_BYTES = "\t\r\x00\x7f\x80\xff #"
+TELLING_BYTES = "  0179axX-#v~\x1f\x7f\t"
+FIRST_WORDS = """board sources processors threads ram actors esb level unclaimed unconnected go start end msix sched
+    save resume endset x 0 00000000000000000000 000000000000000000000 18446744073709551615 18446744073709551616
+    99999999999999999999 100000000000000000000 0xffffffffffffffff 0x0000000000000000 0x10000000000000000
+    0x00000000000000000 0x -1 +0 0_0 #0 Board END Start""".split()
 ODD_WORDS = """18446744073709551615 18446744073709551616 99999999999999999999 000000000000000000001
     00000000000000000001 0x 0X 0x00000000000000001 0xffffffffffffffff 0x10000000000000000 -1 +1 1. 1_0 0b1 1x 0xg x1
     - -- v e vqnbe qv vv vqs 00 01 11 000 2 3 4 7 8 9 12 13 16 21 24 0xff 0x100 255 256 0xffff 0x10000 65536 0xffffffff
@@ -58,6 +64,7 @@ class Script:
         self.run = Run()
         self.broken = False  # a line was refused
         self.plain = False   # spell everything as one would write it
+        self.ending = None   # what stands behind the last line, where the scene says it
 
     # -- spelling
 
@@ -362,6 +369,43 @@ class Script:
         lines = (("cppr", t, value), 3), (("ack", t), 4), (("inject", t, priority), 3), (("regs", t), 3)
         self.work(*self.choose(lines))
 
+    def ring_page(self):
+        """An access to a page of a thread, mostly one that there is, or one beside it."""
+        pick = self.random
+        size = pick.choice((1, 2, 4, 8))
+        load = "tload", pick.randrange(3), 0x10 + pick.randrange(16) // size * size, size
+        way, page, offset, size = pick.choice((
+            load, load, load, ("tstore", 2, 0x11, 1), ("tload", 2, 0x810, 2), ("tstore", 2, 0x812, 1),
+            ("tstore", 1, 0x18, 4), ("tload", 1, 0x818, 4), ("tload", 1, 0x818, 8)))
+        what = pick.randrange(15)
+        if what == 0:
+            way = "tstore" if way == "tload" else "tload"
+        elif what == 1:
+            page = pick.randrange(4)
+        elif what == 2:
+            size = pick.choice((1, 2, 4, 8))
+        elif what == 3:
+            offset = max(0, offset + pick.choice((-8, -4, -2, -1, 1, 2, 4, 8, 16, 0x800, 0x1000, 0x8000)))
+        elif what == 4:
+            offset = pick.choice((0, 8, 0xf, 0x11, 0x12, 0x18, 0x1f, 0x20, 0x28, 0x810, 0x811, 0x812, 0x818, 0x81c,
+                                  0x820, 0xc18, 0xffff, pick.randrange(0x10000)))
+        elif what == 5:
+            way, page, offset = "tload", pick.randrange(3), pick.choice((0x20, 0x10 - size))
+        words = way, self.thread(), page, offset, size
+        if way == "tload":
+            return self.work(*words)
+        v = self.processor()
+        value = pick.choice((0, 4, 7, 8, 0x80, 0xff, pick.getrandbits(8), pick.getrandbits(8 * size)))
+        if offset & 0xfff == 0x18:
+            cams = 0x400, v, 0x80000000 + v, 0x80000400 + len(self.processors), 0x80000800 + v, 0x800003ff, 0xffffffff
+            value = pick.choice((*[0x80000400 + v] * 8, 0x400 + v, *cams))
+        self.work(*words, value % (1 << 8 * size))
+
+    def start(self):
+        """A line that makes no entry, and may stand once."""
+        if not self.run.started:
+            self.say("start")
+
     # -- lines on escalation, and on what is outstanding
 
     def relay(self):
@@ -445,7 +489,7 @@ class Script:
         lines = ((self.event, 29), (self.read, 25), (self.raw, 8), (self.peek, 8), (self.zero, 6), (self.assign, 5),
                  (self.configure, 5), (self.access, 8), (self.reopen, 2), (self.move, 4), (self.take, 3),
                  (self.ring, 3), (self.remark, 4), (self.relay, 4), (self.reopen_either, 3), (self.owe, 3),
-                 (self.quiet, 4), (self.settle_all, 2))
+                 (self.quiet, 4), (self.settle_all, 2), (self.ring_page, 3), (self.start, 1))
         self.choose(lines)()
 
     def choose(self, weighted):
@@ -638,6 +682,16 @@ class Script:
                     self.work("ack", t)
                     self.work("cppr", t, 0xff)
 
+    def ring_pages(self):
+        """Accesses to the pages of threads on which processors are in every phase."""
+        self.header(crowd=True)
+        self.crew_up()
+        pick = self.random
+        weights = pick.choice(((4, 2, 1, 9), (3, 3, 2, 6), (6, 1, 0, 9)))
+        for _ in range(pick.choice((20, 60, 120))):
+            self.choose(tuple(zip((self.move, self.notify, self.ring, self.ring_page), weights)))()
+        self.mix(pick.choice((0, 10)))
+
     def drained_bus(self):
         """A bus that is full, and messages taken from it so that routes go on."""
         self.header(crowd=True)
@@ -807,6 +861,212 @@ class Script:
                          (self.spoiled_line, 4)))()
         self.mix(4)
 
+    # -- lines that are right, and wrong by one thing or two
+
+    def right_line(self):
+        """A line of any word, mostly one that is right; it is only made, and not done."""
+        pick = self.random
+        name = pick.choices(list(LINES), [len(forms) + 2 for forms in LINES.values()])[0]
+        if name == "endset" and pick.randrange(8):
+            return self.only_made(self.configure)
+        level = [s for s in range(self.count) if self.machine.sources[s].level]
+        words = []
+        for form in LINES[name]:
+            if form == "PQ":
+                words.append(pick.choice(("00", "01", "10", "11")))
+            elif form == "FLAGS":
+                words.append(pick.choice("- v vq vqb vqn ve vneu ves".split()))
+            elif form == "SIZE":
+                size = pick.choice((1, 2, 4, 8))
+                words.append(size)
+            elif form == "S" and level and name in ("raise", "lower", "assert", "init") and pick.randrange(8):
+                words.append(pick.choice(level))
+            elif name == "hcall" and not words:
+                words.append(pick.choice((0x3ac, 0x3ac, 0x3a8, 0x3d0, 0x13ac, (1 << 32) + 0x3ac, 0, TOP - 1)))
+            else:
+                most = (1 << 8 * size) - 1 if form == "VALUE" else self.machine.most[form]
+                words.append(pick.choice((0, most, pick.randrange(most + 1), pick.randrange(min(most, 7) + 1))))
+        return self.only_made(lambda: self.work(name, *words))
+
+    def only_made(self, make):
+        """The text of the first line that is made."""
+        before = len(self.lines)
+        kept, self.broken = self.broken, True
+        make()
+        line = self.lines[before]
+        del self.lines[before:]
+        self.broken = kept
+        return line.decode("latin-1")
+
+    def limit(self, words, at):
+        """The least number that is too large for this word of a right line; None where it is no number."""
+        if words[0] in HEADER_COUNTS:
+            return HEADER_COUNTS[words[0]][1] + 1 if at == 1 else None
+        if words[0] in RANGES:
+            return self.machine.counts[RANGES[words[0]]] if at else None
+        if words[0] == "esb":
+            return {1: 3, 2: 2}.get(at)
+        if at == 0:
+            return self.actors
+        form = LINES[words[1]][at - 2] if at > 1 and words[1] in LINES and at - 2 < len(LINES[words[1]]) else None
+        if form == "VALUE":
+            return {"1": 1 << 8, "2": 1 << 16, "4": 1 << 32}.get(words[at - 1], TOP)
+        return {"SIZE": self.random.choice((3, 6, 9))}.get(form, self.machine.most.get(form, -1) + 1) or None
+
+    def changed_bytes(self, text):
+        pick = self.random
+        at = pick.randrange(len(text) + 1)
+        byte = pick.choice(TELLING_BYTES) if pick.randrange(4) else chr(pick.randrange(256))
+        return pick.choice((text[:at] + byte + text[at + 1:], text[:at] + text[at + 1:], text[:at] + byte + text[at:]))
+
+    def changed_words(self, text):
+        pick = self.random
+        words = text.split() or [""]
+        at, other = pick.randrange(len(words)), pick.randrange(len(words))
+        what = pick.randrange(8)
+        if what == 0:
+            del words[at]
+        elif what == 1:
+            words.insert(other, words[at])
+        elif what == 2:
+            words[at], words[other] = words[other], words[at]
+        elif what == 3:
+            words[at] = pick.choice(ODD_WORDS)
+        elif what < 6:
+            words.insert(pick.choice((at, len(words))), pick.choice(ODD_WORDS))
+        elif what == 6:
+            words[0] = pick.choice(FIRST_WORDS)
+        else:
+            words[at] = pick.choice((words[at].upper(), words[at] + "0", words[at][:-1] or "x", words[at].zfill(20),
+                                     words[at].zfill(21), "0x" + words[at], words[at] + pick.choice("xvg-#")))
+        return " ".join(words)
+
+    def changed_number(self, text):
+        """A number at the end of its range, or beyond it, or that is none as it's too long."""
+        pick = self.random
+        words = text.split() or [""]
+        places = [at for at in range(len(words)) if self.limit(words, at)]
+        if not places:
+            return text
+        at = pick.choice(places)
+        limit = self.limit(words, at)
+        n = pick.choice((limit - 1, *[limit] * 6, limit + 1, limit + 7, limit << 1, -limit, TOP - 1, TOP,
+                         (1 << 32) + pick.randrange(limit), TOP + pick.randrange(limit), 10 ** 20 - 1, 10 ** 20, 0, 3))
+        words[at] = pick.choice((str(n), str(n), hex(n), str(n).zfill(20), "0x" + format(n, "x").zfill(16)))
+        return " ".join(words)
+
+    def changed_letters(self, text):
+        """Letters out of their order, or twice, or that are none; a pair of another length."""
+        pick = self.random
+        words = text.split()
+        places = [at for at, word in enumerate(words) if at > 2 and word[0] in "01v-" and not word.startswith("0x")]
+        if not places:
+            return self.changed_bytes(text)
+        at = pick.choice(places)
+        letters = list(words[at] + pick.choice(("", "", "q", "v", "s", "x", "-", "0", "1")))
+        pick.shuffle(letters)
+        words[at] = "".join(letters)
+        return " ".join(words)
+
+    def padded(self, text):
+        """Spaces around, and mostly as long as a line may be, or longer."""
+        pick = self.random
+        text = " " * pick.randrange(4) + text.replace(" ", " " * pick.choice((1, 1, 2, 5)))
+        many = pick.choice((len(text) + 1, len(text) + 3, 255, 256, 256, 257, 257, 258, 300))
+        return pick.choice((text.ljust(many), text.ljust(many), text.rjust(many), text.ljust(many - 1) + "\x7f"))
+
+    def wrong(self, text):
+        """A right line with one mistake mostly, as bytes. At times it is right nevertheless."""
+        ways = ((self.changed_bytes, 6), (self.changed_words, 6), (self.changed_number, 20), (self.changed_letters, 2),
+                (self.padded, 2), (lambda text: text, 1))
+        for _ in range(self.random.choice((1, 1, 1, 1, 2, 2, 3))):
+            text = self.choose(ways)(text)
+        return text.replace("\n", " ").encode("latin-1")
+
+    def wrong_rule(self):
+        """An END at a limit that its letters and numbers have together, or a word that a message source has not."""
+        pick = self.random
+        what = pick.randrange(4)
+        if what == 0:
+            self.work("endset", self.end(), pick.choice(("v", "vn", "vb")), self.processor(),
+                      pick.choice((7, 8, 8, 9, 0xff, 0x100)), 0, 0, 0, 0)
+        else:
+            (self.wrong_end, self.wrong_queue, self.wrong_kind)[what - 1]()
+
+    def wrong_lines(self):
+        pick = self.random
+        self.header(pick.randrange(2), crowd=pick.randrange(3) == 0)
+        self.mix(pick.choice((0, 0, 0, 2, 8)))
+        self.plain = pick.randrange(3) > 0
+        for _ in range(12):
+            what = pick.randrange(20)
+            if what == 0:
+                self.feed(self.wrong("# " + "comment " * pick.randrange(4)))
+            elif what == 1 and pick.randrange(3) == 0:
+                self.start()
+                self.feed(pick.choice((b"start", b" start", b"start 0", b"#start", b"end 0")))
+            elif what == 1:
+                self.feed(self.wrong(pick.choice(("end", "start", "start 0", "end 0", "go", "level 0 0", "esb 2 0"))))
+            elif what < 4:
+                self.wrong_rule()
+            elif what == 4:
+                self.feed(self.wrong(self.only_made(self.wrong_rule)))
+            else:
+                self.feed(self.wrong(self.right_line()))
+            if self.broken or self.run.ended:
+                break
+        self.mix(pick.choice((0, 0, 3)))
+
+    def wrong_header_line(self):
+        """A header with many ranges, and with a line that is wrong, or out of its turn."""
+        pick = self.random
+        self.header(crowd=pick.randrange(2) == 1)
+        lines = [line.decode("latin-1") for line in self.lines[:7]]
+        for name, of in RANGES.items():
+            last = self.machine.counts[of] - 1
+            for _ in range(pick.choice((0, 0, 1, 2, 15, 16, 17))):
+                first = pick.randrange(last + 1)
+                lines.append(f"{name} {first} {pick.randrange(first, last + 1)}")
+                if pick.randrange(30) == 0:
+                    lines[-1] = f"{name} {last} {first}"
+        lines.append("go")
+        at, to = (pick.randrange(pick.choice((len(lines), min(9, len(lines))))) for _ in range(2))
+        what = pick.randrange(10)
+        if what == 0:
+            lines.insert(to, lines.pop(at))
+        elif what == 1:
+            lines.insert(to, lines[at])
+        elif what == 2:
+            del lines[at]
+        elif what == 3:
+            lines.insert(at, pick.choice((self.right_line(), pick.choice(FIRST_WORDS), pick.choice(ODD_LINES), "")))
+        elif what == 4:
+            lines = lines[:at] + [pick.choice(("end", "start", "", "#"))]
+        for _ in range(pick.choice((0, 1)) if what < 5 else 1):
+            at %= len(lines)
+            lines[at] = self.wrong(lines[at]).decode("latin-1")
+        self.given_anew([line.encode("latin-1") for line in lines])
+        if self.run.machine and not self.broken:
+            self.learn()
+            self.mix(pick.choice((0, 0, 3)))
+
+    def given_anew(self, lines):
+        self.lines, self.run, self.broken = [], Run(), False
+        for line in lines:
+            self.feed(line)
+
+    def cut(self):
+        """A script that ends anywhere, mostly within its header or just behind it."""
+        pick = self.random
+        self.header()
+        many = len(self.lines)
+        self.mix(pick.choice((0, 0, 2)))
+        script = b"\n".join(self.lines) + b"\n"
+        header = sum(len(line) + 1 for line in self.lines[:many])
+        at = pick.choice((pick.randrange(header), pick.randrange(header), header - 1, header, len(script),
+                          pick.randrange(len(script)), 0))
+        self.lines, self.ending = script[:at].split(b"\n"), b""
+
     def refused_header(self):
         pick = self.random
         self.header(crowd=pick.randrange(3) == 0)
@@ -840,9 +1100,7 @@ class Script:
             lines[-1:-1] = [kind + b" 0 0" for kind in pick.sample(kinds, pick.choice((2, 2, 2, 3)))]
         else:
             lines[at] = self.spoil(lines[at])
-        self.lines, self.run, self.broken = [], Run(), False
-        for line in lines:
-            self.feed(line)
+        self.given_anew(lines)
         if self.run.machine and not self.broken:
             self.learn()
             self.set_up()
@@ -851,12 +1109,16 @@ class Script:
     # -- the whole
 
     def bytes(self):
-        scenes = ((self.wrapping, 28), (self.wrapping_64_kib, 4), (self.full_bus, 6), (self.mixed, 12),
+        # Those of wrong lines are many, as each script has one refusal at most; they are short.
+        scenes = ((self.wrapping, 28), (self.wrapping_64_kib, 4), (self.full_bus, 9), (self.mixed, 12),
                   (self.edges, 14), (self.one_page, 9), (self.reconfigured, 9), (self.contexts, 56),
-                  (self.windows, 20), (self.drained_bus, 3), (self.refused, 170), (self.refused_header, 70),
+                  (self.windows, 20), (self.drained_bus, 3), (self.refused, 130), (self.refused_header, 50),
                   (self.escalating, 75), (self.changed_in_flight, 55), (self.outstanding, 40),
-                  (self.refused_escalation, 80))
+                  (self.refused_escalation, 70), (self.ring_pages, 40), (self.wrong_lines, 1500),
+                  (self.wrong_header_line, 340), (self.cut, 50))
         self.choose(scenes)()
+        if self.ending is not None:
+            return b"\n".join(self.lines) + self.ending
         return b"\n".join(self.lines) + self.random.choice((
             b"", b"\n", b"\nend", b"\nend\n", b"\nend\n", b"\n\n# the end\n  \n",
             b"\n  end \nread 0\n\xff\n" + b"#" * 300 + b"\n0 read 0\n"))

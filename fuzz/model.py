@@ -23,24 +23,52 @@ BAD_BYTE = re.compile(rb"[^\x20-\x7e]")
 
 
 class Refused(Exception):
-    """The line isn't in the language."""
+    """The line isn't in the language: the cause, and the byte that is named, from 1."""
+
+    def __init__(self, cause, byte):
+        super().__init__(cause, byte)
+        self.cause = cause
+        self.byte = byte
 
 
 def number(word):
-    """The value of a number, below 2^64."""
+    """The value of a number, below 2^64; None where the word has not its form."""
     if HEXADECIMAL.match(word):
         return int(word, 16)
     if DECIMAL.match(word) and int(word) < 1 << 64:
         return int(word)
-    raise Refused
+    return None
 
 
-def within(word, least, most):
-    """A number from least to most, both included."""
-    value = number(word)
-    if not least <= value <= most:
-        raise Refused
-    return value
+class Words:
+    """The words of a line. They are taken from the left, and each is checked wholly before the next is taken."""
+
+    def __init__(self, line):
+        self.left = [(found.start() + 1, found.group()) for found in re.finditer("[^ ]+", line)]
+        self.at = None               # the byte of the word that was taken last
+        self.behind = len(line) + 1  # one past the line's last byte
+
+    def first(self):
+        return self.left[0][1] if self.left else None
+
+    def take(self):
+        if not self.left:
+            raise Refused("missing-word", self.behind)
+        self.at, word = self.left.pop(0)
+        return word
+
+    def number(self, least, most):
+        """A number from least to most, both included."""
+        value = number(self.take())
+        if value is None:
+            raise Refused("bad-number", self.at)
+        if not least <= value <= most:
+            raise Refused("out-of-range", self.at)
+        return value
+
+    def end(self):
+        if self.left:
+            raise Refused("extra-word", self.left[0][0])
 
 
 # ---- the table of pairs ----------------------------------------------------------------------------------------------
@@ -74,6 +102,26 @@ def row_at(offset, store, trigger, eoi, store_eoi):
     if offset < 0x400:
         return trigger
     return eoi if store_eoi else None
+
+
+# ---- the pages of a thread -------------------------------------------------------------------------------------------
+
+# What an access to a page, at an offset, of so many bytes is. The load of registers isn't among them.
+RING = {
+    ("store", 2, 0x11, 1): "cppr",
+    ("load", 2, 0x810, 2): "ack",
+    ("store", 2, 0x812, 1): "inject",
+    ("store", 1, 0x18, 4): "push",
+    ("load", 1, 0x818, 4): "pull",
+    ("load", 1, 0x818, 8): "pull",
+}
+
+
+def ring_access(way, page, offset, size):
+    """One of these, or `regs`; None where there is no such access."""
+    if way == "load" and page <= 2 and 0x10 <= offset <= 0x1f and offset % size == 0:
+        return "regs"
+    return RING.get((way, page, offset, size))
 
 
 # ---- the parts of a board --------------------------------------------------------------------------------------------
@@ -229,8 +277,9 @@ class Thread:
         return 0x80 if self.cam & self.VALID and self.pipr() < self.cppr else 0
 
     def registers(self):
-        """The first eight bytes of the ring."""
-        return bytes((self.nsr(), self.cppr, self.ipb, 0xff, 0xff, 0, 0xff, self.pipr()))
+        """The sixteen bytes of the ring."""
+        first = bytes((self.nsr(), self.cppr, self.ipb, 0xff, 0xff, 0, 0xff, self.pipr()))
+        return first + self.cam.to_bytes(4, "big") + bytes(4)
 
     def acknowledge(self):
         """NSR as it was and CPPR as it is then, in two bytes."""
@@ -244,70 +293,71 @@ class Thread:
 # ---- the header ------------------------------------------------------------------------------------------------------
 
 
+# The header's lines with one number, in their order, and what that is at least and at most.
+COUNTS = {"board": (1, 1), "sources": (1, 8192), "processors": (1, 64), "threads": (1, 32), "ram": (0, 64),
+          "actors": (1, 16)}
+# Its lines with a range, in their order, and what they are ranges of.
+RANGES = {"level": "sources", "unclaimed": "sources", "unconnected": "processors"}
+HEADER_WORDS = (*COUNTS, "esb", *RANGES, "go")
+
+
 class Board:
     """The header, given line by line."""
-
-    COUNTS = (("board", 1, 1), ("sources", 1, 8192), ("processors", 1, 64), ("threads", 1, 32), ("ram", 0, 64),
-              ("actors", 1, 16))
 
     def __init__(self):
         self.counts = {}
         self.esb = None
-        self.level = []
-        self.unclaimed = []
-        self.unconnected = []
+        self.ranges = {name: [] for name in RANGES}
+
+    def turn(self):
+        """The words with which the next line may begin."""
+        if len(self.counts) < len(COUNTS):
+            return (list(COUNTS)[len(self.counts)],)
+        if self.esb is None:
+            return ("esb",)
+        given = [name for name in RANGES if self.ranges[name]]
+        return HEADER_WORDS[HEADER_WORDS.index(given[-1] if given else "level"):]
 
     def feed(self, words):
-        """True where this was the go line, so that the header is whole."""
-        if len(self.counts) < len(self.COUNTS):
-            name, least, most = self.COUNTS[len(self.counts)]
-            self.expect(words, name, 1)
-            self.counts[name] = within(words[1], least, most)
-        elif self.esb is None:
-            self.expect(words, "esb", 2)
-            self.esb = within(words[1], 1, 2), within(words[2], 0, 1)
-        elif words[0] == "level" and not self.unclaimed and not self.unconnected:
-            self.range(words, self.level, "sources")
-        elif words[0] == "unclaimed" and not self.unconnected:
-            self.range(words, self.unclaimed, "sources")
-        elif words[0] == "unconnected":
-            self.range(words, self.unconnected, "processors")
-        else:
-            self.expect(words, "go", 0)
-            return True
-        return False
+        """A line whose first word is in its turn. True where this was the go line, so that the header is whole."""
+        name = words.take()
+        if name in COUNTS:
+            self.counts[name] = words.number(*COUNTS[name])
+        elif name == "esb":
+            self.esb = words.number(1, 2), words.number(0, 1)
+        elif name in RANGES:
+            self.range(words, self.ranges[name], self.counts[RANGES[name]] - 1)
+        words.end()
+        return name == "go"
 
     @staticmethod
-    def expect(words, name, many):
-        if words[0] != name or len(words) != many + 1:
-            raise Refused
-
-    def range(self, words, ranges, of):
-        if len(ranges) == MOST_RANGES or len(words) != 3:
-            raise Refused
-        last = self.counts[of] - 1
-        first = within(words[1], 0, last)
-        ranges.append((first, within(words[2], first, last)))
+    def range(words, ranges, last):
+        if len(ranges) == MOST_RANGES:
+            raise Refused("out-of-range", words.at)
+        first = words.number(0, last)
+        ranges.append((first, words.number(first, last)))
 
     def text(self):
-        lines = [f"{name} {self.counts[name]}" for name, _, _ in self.COUNTS[1:]]
+        lines = [f"{name} {self.counts[name]}" for name in COUNTS if name != "board"]
         lines.append("esb {} {}".format(*self.esb))
-        lines += ["level {} {}".format(*both) for both in self.level]
-        lines += ["unclaimed {} {}".format(*both) for both in self.unclaimed]
-        lines += ["unconnected {} {}".format(*both) for both in self.unconnected]
+        for name, ranges in self.ranges.items():
+            lines += ["{} {} {}".format(name, *both) for both in ranges]
         return lines + ["go"]
 
 
 # ---- the machine -----------------------------------------------------------------------------------------------------
 
-# The work lines without their ACTOR; N is any number, and I one of 32 bits. `line_NAME` of the machine does what a line
-# says.
+# The work lines without their ACTOR. Of each the word, and the forms of the words behind it: N is any number, and I one
+# of 32 bits; the others are in `field`. `line_NAME` of the machine does what a line says.
 LINES = {line.split()[0]: line.split()[1:] for line in (
     "trigger S", "eoi S", "get S", "set S PQ", "raise S", "lower S", "init S A", "load S PAGE OFFSET",
-    "store S PAGE OFFSET", "route S", "fire S", "finish S", "assert S", "hcall N N N N N N",
-    "endset E FLAGS V N N N E N", "endload E END-PAGE OFFSET", "endstore E END-PAGE OFFSET", "read E", "peek N",
-    "zero N N", "connect V", "restore V T", "push T V", "pull T", "save V", "take I", "settle", "cppr T BYTE", "ack T",
-    "inject T BYTE", "regs T", "quiet S", "sync S", "drain")}
+    "store S PAGE OFFSET", "endload E END-PAGE OFFSET", "endstore E END-PAGE OFFSET", "route S", "take I", "quiet S",
+    "endset E FLAGS V BYTE N I E I", "connect V", "restore V T", "save V", "tload T RING-PAGE OFFSET SIZE",
+    "tstore T RING-PAGE OFFSET SIZE VALUE", "hcall N N N N N N", "kvmset I N N", "kvmeq N I I N I I", "kvmget I N",
+    "vpget V", "vpset V BYTE BYTE", "read E", "peek N", "zero N N", "fire S", "finish S", "assert S", "settle", "drain",
+    "sync S", "cppr T BYTE", "ack T", "inject T BYTE", "regs T", "push T V", "pull T", "reset", "migrate")}
+# In the language, but not built; so is `hcall` with another number than 0x3ac.
+NOT_BUILT = ("kvmset", "kvmeq", "kvmget", "vpget", "vpset", "reset", "migrate")
 
 
 def is_among(n, ranges):
@@ -320,32 +370,60 @@ class Machine:
         self.counts = board.counts
         self.pages, self.store_eoi = board.esb
         self.memory = Memory(board.counts["ram"])
-        self.sources = [Source(is_among(s, board.level), not is_among(s, board.unclaimed))
+        ranges = board.ranges
+        self.sources = [Source(is_among(s, ranges["level"]), not is_among(s, ranges["unclaimed"]))
                         for s in range(board.counts["sources"])]
-        self.processors = [Processor(not is_among(v, board.unconnected)) for v in range(board.counts["processors"])]
+        self.processors = [Processor(not is_among(v, ranges["unconnected"]))
+                           for v in range(board.counts["processors"])]
         self.threads = [Thread() for _ in range(board.counts["threads"])]
         self.ends = [End() for _ in range(8 * len(self.processors))]
         self.flight = []  # the messages in the order made
         self.count = 0
         self.actor = 0
         self.most = {"S": len(self.sources) - 1, "E": len(self.ends) - 1, "V": len(self.processors) - 1,
-                     "T": len(self.threads) - 1, "A": 1, "BYTE": 0xff, "PAGE": self.pages - 1, "END-PAGE": 1,
-                     "OFFSET": 0xffff, "I": (1 << 32) - 1, "N": (1 << 64) - 1}
+                     "T": len(self.threads) - 1, "A": 1, "PAGE": self.pages - 1, "END-PAGE": 1, "RING-PAGE": 3,
+                     "OFFSET": 0xffff, "BYTE": 0xff, "I": (1 << 32) - 1, "N": (1 << 64) - 1}
 
     def line(self, words):
         """Reads a work line, and makes its entries."""
-        self.actor = within(words[0], 0, self.counts["actors"] - 1)
-        if len(words) < 2 or words[1] not in LINES or len(words) - 2 != len(LINES[words[1]]):
-            raise Refused
-        fields = [self.field(name, word) for name, word in zip(LINES[words[1]], words[2:])]
-        getattr(self, "line_" + words[1])(*fields)
+        self.actor = words.number(0, self.counts["actors"] - 1)
+        name, at = words.take(), words.at
+        if name not in LINES:
+            raise Refused("unknown-word", at)
+        fields = []
+        for form in LINES[name]:
+            fields.append(self.field(form, words, fields))
+        words.end()
+        cause = self.against(name, fields)
+        if cause:
+            raise Refused(cause, at)
+        getattr(self, "line_" + name)(*fields)
 
-    def field(self, name, word):
-        if name == "PQ" and word in PAIRS or name == "FLAGS" and LETTERS.match(word):
+    def field(self, form, words, before):
+        """The next word of a line, by its form; `before` are the fields before it."""
+        if form == "PQ" or form == "FLAGS":
+            word = words.take()
+            if not (word in PAIRS if form == "PQ" else LETTERS.match(word)):
+                raise Refused("bad-number", words.at)
             return word
-        if name in ("PQ", "FLAGS"):
-            raise Refused
-        return within(word, 0, self.most[name])
+        if form == "VALUE":
+            return words.number(0, (1 << 8 * before[-1]) - 1)
+        if form == "SIZE":
+            size = words.number(1, 8)
+            if size not in (1, 2, 4, 8):
+                raise Refused("out-of-range", words.at)
+            return size
+        return words.number(0, self.most[form])
+
+    def against(self, name, fields):
+        """Why a line isn't taken whose words are all right, each by itself; None where it is taken."""
+        if name in ("raise", "lower", "assert") or name == "init" and fields[1] == 1:
+            return None if self.sources[fields[0]].level else "not-level"
+        if name == "endset":
+            return None if self.takes_end(*fields) else "bad-end"
+        if name in NOT_BUILT or name == "hcall" and fields[0] != 0x3ac:
+            return "not-built"
+        return None
 
     def entry(self, operation, outcome):
         self.out.append(f"{self.count} {self.actor} {operation} -> {outcome}")
@@ -372,8 +450,6 @@ class Machine:
 
     def move(self, operation, s, cells, up):
         """The line of a level source goes up or down."""
-        if not self.sources[s].level:
-            raise Refused
         self.sources[s].asserted = up
         return self.on_pair(f"{operation} {s}", s, cells)
 
@@ -384,8 +460,6 @@ class Machine:
         self.move("lower", s, KEEP, False)
 
     def line_init(self, s, up):
-        if up and not self.sources[s].level:
-            raise Refused
         self.sources[s].asserted = up == 1
         self.on_pair(f"init {s} {up}", s, SET["01"])
 
@@ -434,10 +508,8 @@ class Machine:
     # -- EASes and configurations
 
     def line_hcall(self, call, *arguments):
-        if call != 0x3ac:
-            raise Refused
-        shown = " ".join(hex(argument) for argument in arguments)
-        self.entry(f"hcall 0x3ac {shown}", f"code {self.set_source_config(*arguments)}")
+        shown = " ".join(hex(argument) for argument in (call, *arguments))
+        self.entry(f"hcall {shown}", f"code {self.set_source_config(*arguments)}")
 
     def set_source_config(self, flags, s, target, priority, payload):
         """The first of these that holds is the code; a code other than 0 changes nothing."""
@@ -460,14 +532,15 @@ class Machine:
         return 0
 
     def line_endset(self, e, flags, v, priority, address, shift, escalation, payload):
-        if "v" not in flags and (flags, v, priority) != ("-", 0, 0):
-            raise Refused
-        if priority > 7 or not self.takes_queue(flags, address, shift):
-            raise Refused
-        if not self.takes_escalation(e, flags, escalation, payload):
-            raise Refused
         self.ends[e].configure(flags, v, priority, address, shift, escalation, payload)
         self.entry(f"endset {e} {flags} {v} {priority} {address:#x} {shift} {escalation} {payload:#x}", "ok")
+
+    def takes_end(self, e, flags, v, priority, address, shift, escalation, payload):
+        """Without v there are no flags, and the numbers are 0."""
+        if "v" not in flags and (flags, v, priority) != ("-", 0, 0):
+            return False
+        return (priority <= 7 and self.takes_queue(flags, address, shift) and
+                self.takes_escalation(e, flags, escalation, payload))
 
     def takes_queue(self, flags, address, shift):
         """The queue is aligned and lies within the memory; without q the numbers are 0."""
@@ -611,23 +684,18 @@ class Machine:
         processor.goes("restored", t)
         return "ok"
 
-    def line_push(self, t, v):
-        self.entry(f"tstore {t} 1 0x18 4 {0x80000400 + v:#x}", self.push(t, v))
-
-    def push(self, t, v):
-        processor, thread = self.processors[v], self.threads[t]
-        if not processor.connected:
+    def push(self, t, cam):
+        v, thread = cam - 0x80000400, self.threads[t]
+        if not 0 <= v < len(self.processors) or not self.processors[v].connected:
             return "refused not-valid"
+        processor = self.processors[v]
         if (processor.phase, processor.thread) != ("restored", t):
             return f"refused not-restored {processor.where()}"
-        thread.cam = thread.VALID | 0x400 + v
+        thread.cam = cam
         thread.ipb |= processor.backlog
         processor.backlog = 0
         processor.goes("on", t)
         return "ok"
-
-    def line_pull(self, t):
-        self.entry(f"tload {t} 1 0x818 4", self.pull(t))
 
     def pull(self, t):
         thread = self.threads[t]
@@ -652,31 +720,68 @@ class Machine:
         processor.goes("saved", None)
         return "ok"
 
-    # -- registers; all but their load need a processor that is on the thread
+    # -- the pages of a thread, and the lines that are accesses to them
 
-    def on_thread(self, operation, t, does):
+    def line_tload(self, t, page, offset, size):
+        outcome = "bad-access"
+        access = ring_access("load", page, offset, size)
+        if access == "regs":
+            at = offset - 0x10
+            outcome = "value {:#x}".format(int.from_bytes(self.threads[t].registers()[at:at + size], "big"))
+        elif access == "ack":
+            outcome = self.on_thread(t, self.acknowledge)
+        elif access == "pull":
+            outcome = self.pull(t)
+        self.entry(f"tload {t} {page} {offset:#x} {size}", outcome)
+
+    def line_tstore(self, t, page, offset, size, value):
+        outcome = "bad-access"
+        access = ring_access("store", page, offset, size)
+        if access == "cppr":
+            outcome = self.on_thread(t, self.set_cppr, value)
+        elif access == "inject":
+            outcome = self.on_thread(t, self.inject, value)
+        elif access == "push":
+            outcome = self.push(t, value)
+        self.entry(f"tstore {t} {page} {offset:#x} {size} {value:#x}", outcome)
+
+    def on_thread(self, t, does, *value):
+        """What needs a processor that is on the thread; a load of registers doesn't."""
         thread = self.threads[t]
-        self.entry(operation, does(thread) if thread.cam & thread.VALID else "refused no-context")
+        return does(thread, *value) if thread.cam & thread.VALID else "refused no-context"
+
+    @staticmethod
+    def acknowledge(thread):
+        return f"value {thread.acknowledge():#x}"
+
+    @staticmethod
+    def set_cppr(thread, value):
+        thread.cppr = value if value <= 7 else 0xff
+        return "stored"
+
+    @staticmethod
+    def inject(thread, priority):
+        if priority <= 7:
+            thread.ipb |= pending_bit(priority)
+        return "stored"
+
+    def line_push(self, t, v):
+        self.line_tstore(t, 1, 0x18, 4, 0x80000400 + v)
+
+    def line_pull(self, t):
+        self.line_tload(t, 1, 0x818, 4)
 
     def line_cppr(self, t, value):
-        def store(thread):
-            thread.cppr = value if value <= 7 else 0xff
-            return "stored"
-        self.on_thread(f"tstore {t} 2 0x11 1 {value:#x}", t, store)
+        self.line_tstore(t, 2, 0x11, 1, value)
 
     def line_ack(self, t):
-        self.on_thread(f"tload {t} 2 0x810 2", t, lambda thread: f"value {thread.acknowledge():#x}")
+        self.line_tload(t, 2, 0x810, 2)
 
     def line_inject(self, t, priority):
-        def store(thread):
-            if priority <= 7:
-                thread.ipb |= pending_bit(priority)
-            return "stored"
-        self.on_thread(f"tstore {t} 2 0x812 1 {priority:#x}", t, store)
+        self.line_tstore(t, 2, 0x812, 1, priority)
 
     def line_regs(self, t):
-        value = int.from_bytes(self.threads[t].registers(), "big")
-        self.entry(f"tload {t} 2 0x10 8", f"value {value:#x}")
+        self.line_tload(t, 2, 0x10, 8)
 
     # -- memory
 
@@ -727,22 +832,40 @@ class Run:
         self.board = Board()
         self.machine = None
         self.out = []
+        self.started = False
         self.ended = False
 
     def feed(self, line):
         """One line, without its newline."""
-        if len(line) > MOST_IN_A_LINE or BAD_BYTE.search(line):
-            raise Refused
-        words = [word for word in line.decode("ascii").split(" ") if word]
-        if not words or words[0].startswith("#"):
+        if len(line) > MOST_IN_A_LINE:
+            raise Refused("long-line", MOST_IN_A_LINE + 1)
+        bad = BAD_BYTE.search(line)
+        if bad:
+            raise Refused("bad-byte", bad.start() + 1)
+        words = Words(line.decode("ascii"))
+        first = words.first()
+        if first is None or first.startswith("#"):
             return
-        if self.machine is not None and words == ["end"]:
-            self.ended = True
-        elif self.machine is not None:
+        if not self.in_turn(first):
+            known = first in HEADER_WORDS or first in ("start", "end") or number(first) is not None
+            raise Refused("wrong-place" if known else "unknown-word", words.left[0][0])
+        if self.machine is None:
+            if self.board.feed(words):
+                self.machine = Machine(self.board, self.out)
+                self.out += ["xive-account 1"] + self.board.text()
+        elif number(first) is not None:
             self.machine.line(words)
-        elif self.board.feed(words):
-            self.machine = Machine(self.board, self.out)
-            self.out += ["xive-account 1"] + self.board.text()
+        else:
+            words.take()
+            words.end()
+            self.started = True  # by `start`; behind `end` there are no lines
+            self.ended = first == "end"
+
+    def in_turn(self, first):
+        """Whether a line may begin with this word here."""
+        if self.machine is None:
+            return first in self.board.turn()
+        return number(first) is not None or first == "end" or first == "start" and not self.started
 
     def all(self, script):
         """The whole script; answers the status."""
@@ -764,9 +887,9 @@ class Run:
                 return 7
             if self.machine is None:
                 lines += 1  # the line after the last
-                raise Refused
-        except Refused:
-            self.out.append(f"refused line {lines} byte 1 not-built")
+                raise Refused("no-go", 1)
+        except Refused as why:
+            self.out.append(f"refused line {lines} byte {why.byte} {why.cause}")
             return 2
         self.out += self.machine.report()
         return 0
