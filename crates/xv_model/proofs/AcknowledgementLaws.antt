@@ -16,7 +16,7 @@ use Rattle.xv_model.specs.account.Start.{Start, start}
 use Rattle.xv_model.specs.account.Legal.{IsLegal, legal}
 use Rattle.xv_model.specs.declared.tima.RingOp.{RingOp}
 use Rattle.xv_model.specs.declared.tima.RingOp.TheVariants.{SetCppr, Accept}
-use Rattle.xv_model.specs.source.Eas.{is_success}
+use Rattle.xv_model.specs.call.Accepted.{is_success}
 use Rattle.xv_model.specs.processor.Priorities.{priorities, no_priority, least_of}
 use Rattle.xv_model.specs.processor.RingOps.{RingAccess, ring_op, ring_access_by, ring_access}
 use Rattle.xv_model.specs.processor.Phases.{cam_of, thread_of, is_on, phase}

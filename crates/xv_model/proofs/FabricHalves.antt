@@ -1,8 +1,7 @@
 -- What the fabric's definitions say of an account they say of its fabric entries alone.
-use Rattle.std.proofs.Common.{ℕ, ◌≡◌, ◌==◌, ◌+◌, ◌-◌, ◌&&◌, ◌||◌, nat_lt, Bool, true, false, not, cond, if◌then◌else◌, List, [], ◌∷◌, ◌++◌, length, slice_get, filter, Option, Some, None, refl, sym, ◌∙◌, ap, append-nil}
+use Rattle.std.proofs.Common.{ℕ, ◌≡◌, ◌==◌, ◌+◌, ◌-◌, ◌&&◌, ◌||◌, Bool, true, false, not, cond, if◌then◌else◌, List, [], ◌∷◌, ◌++◌, length, slice_get, filter, Option, Some, None, refl, sym, ◌∙◌, ap, append-nil}
 use Rattle.std.specs.Option.{option_map_or}
 use Rattle.xv_base.specs.Limits.{most_messages}
-use Rattle.xv_model.specs.declared.hypercalls.TheConstants.{H_SUCCESS, H_PARAMETER, H_P2, H_P3, H_P4, SRC_FLAGS, PRIORITY_MASKED, PRIORITY_RESERVED}
 use Rattle.xv_model.specs.declared.eas.Eas.{Eas}
 use Rattle.xv_model.specs.declared.operations.EndConfig.{EndConfig}
 use Rattle.xv_model.specs.declared.operations.Op.{Op}
@@ -20,7 +19,7 @@ use Rattle.xv_model.specs.account.Kinds.{is_fabric, run_of}
 use Rattle.xv_model.specs.source.PqTable.{trigger_row}
 use Rattle.xv_model.specs.source.Notices.{forwards, routes, outstanding}
 use Rattle.xv_model.specs.end.Flags.{is_valid, enqueues}
-use Rattle.xv_model.specs.source.Eas.{source_config_in, eas_by, eas}
+use Rattle.xv_model.specs.source.Eas.{eas_after, eas}
 use Rattle.xv_model.specs.end.Descriptors.{configuration_in, config_at, config_by, end_config, since_config, until_config}
 use Rattle.xv_model.specs.end.EventStates.{first_state, ran_at, asks_state, asked_end, load_in, load_at, load_by, esn, ese}
 use Rattle.xv_model.specs.end.Pages.{loaded, end_page_answer}
@@ -32,19 +31,19 @@ use Rattle.xv_model.specs.route.Flight.{made_by, messages_by, source_of, taken_i
 use Rattle.xv_model.specs.route.Routing.{write_by, next_by, end_pass, routed_by, route_outcome}
 use Rattle.xv_model.specs.route.Quiet.{messages_of, quiet_by, quiet_answer}
 use Rattle.xv_model.specs.processor.Phases.{connected_in, is_connected}
-use Rattle.xv_model.specs.call.Arguments.{source_config}
-use Rattle.xv_model.specs.call.Hypercalls.{bare_reply, hcall_reply}
+use Rattle.xv_model.specs.call.Accepted.{call_in}
 use Rattle.xv_model.specs.account.Halves.{words_of, fabric_of}
 use Rattle.xv_model.proofs.HalvesLemmas.{half, forwards-half, routes-half}
 
--- an operation that isn't the fabric's configures no source
-no_source_config : (b : Board) (o : Op) (u : Outcome) → is_fabric b o ≡ false → source_config_in o u ≡ None
-no_source_config b (op.Hcall number args) u other = cc
-no_source_config b _ u other = refl
+-- an operation that isn't the fabric's is no hypercall
+no_call : (b : Board) (o : Op) (u : Outcome) → is_fabric b o ≡ false → call_in o u ≡ None
+no_call b (op.Hcall number args) u other = cc
+no_call b _ u other = refl
 
 -- an operation that isn't the fabric's configures no END
 no_configuration : (b : Board) (o : Op) (u : Outcome) → is_fabric b o ≡ false → configuration_in o u ≡ None
 no_configuration b (op.EndSet e c) u other = cc
+no_configuration b (op.Hcall number args) u other = cc
 no_configuration b _ u other = refl
 
 -- an operation that isn't the fabric's is no pass of an END
@@ -98,7 +97,7 @@ no_item b _ u e other = refl
 
 -- an entry that isn't the fabric's leaves the EAS of s
 pub eas-skips : (z : Start) (s : ℕ) (x : Entry) (h : List Entry) → is_fabric z.board x.op ≡ false → eas z (x ∷ h) s ≡ eas z h s
-eas-skips z s x h other = rw (no_source_config z.board x.op x.outcome other) refl
+eas-skips z s x h other = rw (no_call z.board x.op x.outcome other) refl
 
 -- an entry that isn't the fabric's leaves the configuration of e
 pub end_config-skips : (z : Start) (e : ℕ) (x : Entry) (h : List Entry) → is_fabric z.board x.op ≡ false → end_config z (x ∷ h) e ≡ end_config z h e
@@ -146,7 +145,7 @@ flight-skips z x h other = no_messages z h x.op x.outcome (flight z h) other
 
 -- the EAS of s is that of the fabric's entries
 pub eas-half : (z : Start) (s : ℕ) (h : List Entry) → eas z (fabric_of z.board h) s ≡ eas z h s
-eas-half z s = half (λ x. is_fabric z.board x.op) (λ h. eas z h s) (λ x h. ap (λ before. option_map_or (λ c. if c.lisn == s then eas_by c before else before) (source_config_in x.op x.outcome) before)) (eas-skips z s)
+eas-half z s = half (λ x. is_fabric z.board x.op) (λ h. eas z h s) (λ x h. ap (λ before. option_map_or (λ c. eas_after c s before) (call_in x.op x.outcome) before)) (eas-skips z s)
 
 -- the configuration of e is that of the fabric's entries
 pub end_config-half : (z : Start) (e : ℕ) (h : List Entry) → end_config z (fabric_of z.board h) e ≡ end_config z h e
@@ -270,17 +269,6 @@ end_pass-half z e payload h = λ i. if is_valid (end_config-half z e h i) then r
 -- what becomes of a notice after the fabric's entries is what becomes of it after the account
 pub routed_by-half : (z : Start) (a : Eas) (h : List Entry) → routed_by z (fabric_of z.board h) a ≡ routed_by z h a
 routed_by-half z a h = λ i. if not a.valid then NoSource else (if a.masked then Masked else Run (end_pass-half z a.end a.eisn h i))
-
--- what a hypercall replies after the fabric's entries is what it replies after the account
-pub hcall_reply-half : (z : Start) (args : List ℕ) (h : List Entry) → hcall_reply z (fabric_of z.board h) args ≡ hcall_reply z h args
-hcall_reply-half z args h =
-    let c = source_config args in
-    λ i. bare_reply (
-    if nat_lt SRC_FLAGS c.flags then H_PARAMETER
-    else (if not (nat_lt c.lisn z.board.limits.sources && (eas-half z c.lisn h i).valid) then H_P2
-    else (if c.priority == PRIORITY_MASKED then H_SUCCESS
-    else (if not (nat_lt c.priority PRIORITY_RESERVED) then H_P4
-    else (if not (nat_lt c.target z.board.limits.processors && is_connected-half z c.target h i) then H_P3 else H_SUCCESS)))))
 
 -- what says the same of an account as of its fabric entries says the same of accounts with the same ones
 pub same_fabric : {R : Type 0} (b : Board) (d : List Entry → R) (g h : List Entry) → ((f : List Entry) → d (fabric_of b f) ≡ d f) → fabric_of b g ≡ fabric_of b h → d g ≡ d h

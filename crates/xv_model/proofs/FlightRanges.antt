@@ -1,5 +1,5 @@
 -- The configurations and the messages of a legal account: payloads are in range, and what escalates has an escalation END, which doesn't.
-use Rattle.std.proofs.Common.{ℕ, ◌≡◌, ◌==◌, ◌&&◌, ◌||◌, ◌^◌, nat_lt, not, Bool, true, false, if◌then◌else◌, List, [], ◌∷◌, ◌+◌, length, suc, zero, slice_get, Option, Some, None, refl, sym, ◌∙◌, ap, subst, arith, lit<}
+use Rattle.std.proofs.Common.{ℕ, ◌≡◌, ◌==◌, ◌&&◌, ◌||◌, ◌^◌, nat_lt, not, Bool, true, false, if◌then◌else◌, List, [], ◌∷◌, ◌+◌, length, suc, zero, slice_get, option_and_then, Option, Some, None, refl, sym, ◌∙◌, ap, subst, arith, lit<}
 use Rattle.std.proofs.lemmas.Bool.{and_parts, ltb-true, eqb-true}
 use Rattle.std.proofs.lemmas.List.Elements.{All-nil, All-push, All-append, All-take, All-drop, All-head, All-tail}
 use Rattle.std.specs.Prelude.{All}
@@ -20,13 +20,19 @@ use Rattle.xv_model.specs.declared.messages.Message.{Message}
 use Rattle.xv_model.specs.declared.messages.Message.TheVariants as message
 use Rattle.xv_model.specs.declared.entries.Entry.{Entry}
 use Rattle.xv_model.specs.source.PqTable.{trigger_row}
-use Rattle.xv_model.specs.account.Start.{Start, start}
+use Rattle.xv_model.specs.account.Start.{Start, start, no_config}
 use Rattle.xv_model.specs.account.Kinds.{run_of}
 use Rattle.xv_model.specs.account.Fit.{IsFitConfig, IsFit, IsFitStart}
 use Rattle.xv_model.specs.account.Legal.{IsLegal, legal}
 use Rattle.xv_model.specs.board.Validity.{valid, end_count, has_queue, has_nothing, notifies_one, is_escalation_end, has_escalation, has_no_escalation, valid_config, may_be_configured}
 use Rattle.xv_model.specs.end.Flags.{has_bit, keeps_backlog, may_escalate, escalates, is_valid, is_silent, always_notifies}
-use Rattle.xv_model.specs.end.Descriptors.{configuration_in, config_at, config_by, end_config}
+use Rattle.xv_model.specs.declared.hypercalls.flags.TheConstants.{END_ALWAYS_NOTIFY}
+use Rattle.xv_model.specs.declared.hypercalls.arguments.SetQueueConfigArgs.{SetQueueConfigArgs}
+use Rattle.xv_model.specs.declared.hypercalls.Call.{Call}
+use Rattle.xv_model.specs.declared.hypercalls.Call.TheVariants as call
+use Rattle.xv_model.specs.call.Arguments.{end_of}
+use Rattle.xv_model.specs.call.Accepted.{call_in}
+use Rattle.xv_model.specs.end.Descriptors.{resets, queue_told, config_told, configuration_by, configuration_in, config_at, config_by, end_config}
 use Rattle.xv_model.specs.route.Flight.{messages_by, made_by, source_of, taken_in, is_escalating, escalation_of, made, without, messages_after, flight}
 use Rattle.xv_model.specs.route.Routing.{next_by, write_by, end_pass, route_outcome}
 use Rattle.xv_model.specs.route.Taking.{is_undelivered, presented_to, escalates_on, taken_by}
@@ -78,17 +84,49 @@ fit_config b e c v =
     let w = and_parts (has_queue b c) _ q.1 in
     by_v b e c (is_valid c) w.1 u.1
 
+-- a configuration that doesn't escalate
+unescalating : (e : ℕ) (c : EndConfig) → escalates c ≡ false → c.esc_eisn ≡ 0 → IsFitConfig e c
+unescalating e c off none = record {
+  payload = omega (arith, none);
+  escalation = λ on. let no : false ≡ true = sym off ∙ on in absurd cc;
+  last = λ l. off;
+}
+
+-- a hypercall tells an END nothing that escalates
+told_quietly : (c : SetQueueConfigArgs) → escalates (queue_told c) ≡ false
+told_quietly c = by (has_bit c.flags END_ALWAYS_NOTIFY)
+  where
+    by : (always : Bool) → has_bit (1 + 2 + 8 + (if always then 4 else 0)) 16 ≡ false
+    by true = refl
+    by false = refl
+
+fit_told : (e : ℕ) (c : SetQueueConfigArgs) → IsFitConfig e (config_told c)
+fit_told e c = by (resets c)
+  where
+    by : (reset : Bool) → IsFitConfig e (if reset then no_config else queue_told c)
+    by true = unescalating e no_config refl refl
+    by false = unescalating e (queue_told c) (told_quietly c) refl
+
+-- what is told to an END is told to e, where it is the same
+fit_same : (same : Bool) (end e : ℕ) (d c : EndConfig) → (end == e) ≡ same → IsFitConfig end d → (if same then Some d else None) ≡ Some c → IsFitConfig e c
+fit_same true end e d c here fit is =
+    let at : end ≡ e = eqb-true end e here in
+    let what : d ≡ c = cc in
+    subst (λ n. IsFitConfig n c) at (subst (IsFitConfig end) what fit)
+fit_same false end e d c here fit is = cc
+
+-- an accepted call's configuration of e is one that doesn't escalate
+fit_called : (m : Option Call) (e : ℕ) (c : EndConfig) → config_at e (option_and_then configuration_by m) ≡ Some c → IsFitConfig e c
+fit_called (Some (call.SetQueueConfig args)) e c is = fit_same (end_of args.target args.priority == e) (end_of args.target args.priority) e (config_told args) c refl (fit_told (end_of args.target args.priority) args) is
+fit_called (Some (call.Reset args)) e c is = let what : no_config ≡ c = cc in subst (IsFitConfig e) what (unescalating e no_config refl refl)
+fit_called (Some _) e c is = cc
+fit_called None e c is = cc
+
 -- an entry's configuration of e is one that the board has
 fit_configured : (b : Board) (o : Op) (u : Outcome) (e : ℕ) (c : EndConfig) → valid b o ≡ true → config_at e (configuration_in o u) ≡ Some c → IsFitConfig e c
-fit_configured b (op.EndSet end d) out.Fine e c v is = by (end == e) refl is
-  where
-    by : (same : Bool) → (end == e) ≡ same → (if same then Some d else None) ≡ Some c → IsFitConfig e c
-    by true here is =
-        let at : end ≡ e = eqb-true end e here in
-        let what : d ≡ c = cc in
-        subst (λ n. IsFitConfig n c) at (subst (IsFitConfig end) what (fit_config b end d v))
-    by false here is = cc
+fit_configured b (op.EndSet end d) out.Fine e c v is = fit_same (end == e) end e d c refl (fit_config b end d v) is
 fit_configured b (op.EndSet end d) _ e c v is = cc
+fit_configured b (op.Hcall number args) u e c v is = fit_called (call_in (op.Hcall number args) u) e c is
 fit_configured b _ u e c v is = cc
 
 -- the configuration after an entry, where it configures e, or not

@@ -17,7 +17,8 @@ use Rattle.xv_model.specs.route.Taking.{take_outcome}
 use Rattle.xv_model.specs.processor.Moves.{restore_outcome, save_outcome}
 use Rattle.xv_model.specs.processor.Accesses.{tima_outcome}
 use Rattle.xv_model.specs.call.Hypercalls.{hcall_reply}
-use Rattle.xv_model.proofs.FabricHalves.{same_fabric, route_half, end_page_answer-half, read_outcome-half, peek_outcome-half, hcall_reply-half}
+use Rattle.xv_model.proofs.FabricHalves.{same_fabric, route_half, end_page_answer-half, read_outcome-half, peek_outcome-half}
+use Rattle.xv_model.proofs.CallHalves.{hcall_reply-half}
 use Rattle.xv_model.proofs.ProcessorHalves.{take_outcome-half, restore_outcome-half, save_outcome-half, tima_outcome-half}
 
 -- an operation of the fabric answers the same after accounts with the same fabric entries, where for a route a notice is outstanding after both or after neither
@@ -33,7 +34,7 @@ fabric_answer_half z g h (op.Save v) is same none = same_fabric z.board (λ f. s
 fabric_answer_half z g h (op.Tima t page offset size access) is same none = same_fabric z.board (λ f. tima_outcome z f t page offset size access) g h (tima_outcome-half z t page offset size access) same
 fabric_answer_half z g h (op.Read e) is same none = same_fabric z.board (λ f. read_outcome z f e) g h (read_outcome-half z e) same
 fabric_answer_half z g h (op.Peek addr) is same none = same_fabric z.board (λ f. peek_outcome z f addr) g h (peek_outcome-half z addr) same
-fabric_answer_half z g h (op.Hcall number args) is same none = ap out.Reply (same_fabric z.board (λ f. hcall_reply z f args) g h (hcall_reply-half z args) same)
+fabric_answer_half z g h (op.Hcall number args) is same none = ap out.Reply (same_fabric z.board (λ f. hcall_reply z f number args) g h (hcall_reply-half z number args) same)
 fabric_answer_half z g h _ is same none = refl
 
 -- an operation of the fabric is on no word, and not quiet

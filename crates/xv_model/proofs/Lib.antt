@@ -3,12 +3,15 @@ pub mod AcknowledgementLaws
 pub mod Beginnings
 pub mod Burdens
 pub mod Bytes
+pub mod CallHalves
+pub mod Elements
 pub mod EscalationLaws
 pub mod FabricHalves
 pub mod FewMessages
 pub mod FlightRanges
 pub mod FreshPages
 pub mod HalvesLemmas
+pub mod HypercallLaws
 pub mod KeptOff
 pub mod LegalHalves
 pub mod MoreLines
@@ -30,6 +33,7 @@ pub mod SmallPairs
 pub mod SmallStates
 pub mod SoundMoves
 pub mod Sums
+pub mod ToldConfigs
 pub mod Touches
 pub mod TriggerLaws
 pub mod Users

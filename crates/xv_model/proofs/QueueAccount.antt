@@ -3,7 +3,9 @@ use Rattle.std.proofs.Common.{ℕ, zero, suc, ◌≡◌, ◌+◌, ◌<◌, true,
 use Rattle.std.proofs.lemmas.Bool.{cases_lt}
 use Rattle.std.proofs.lemmas.List.Elements.{All-nil, All-cons}
 use Rattle.xv_model.specs.declared.pages.TheConstants.{ESB_SET_PQ, ESB_SET_STEP}
-use Rattle.xv_model.specs.declared.hypercalls.TheConstants.{H_SUCCESS, H_INT_SET_SOURCE_CONFIG, SRC_SET_EISN}
+use Rattle.xv_model.specs.declared.hypercalls.TheConstants.{H_INT_SET_SOURCE_CONFIG}
+use Rattle.xv_model.specs.declared.hypercalls.codes.TheConstants.{H_SUCCESS}
+use Rattle.xv_model.specs.declared.hypercalls.flags.TheConstants.{SRC_SET_EISN}
 use Rattle.xv_model.specs.declared.operations.PqOp.TheVariants.{Trigger, Eoi, Set}
 use Rattle.xv_model.specs.declared.operations.Op.{Op}
 use Rattle.xv_model.specs.declared.operations.Op.TheVariants as op
@@ -18,7 +20,7 @@ use Rattle.xv_model.specs.account.Legal.{IsLegal}
 use Rattle.xv_model.specs.source.Pairs.{pq}
 use Rattle.xv_model.specs.source.Notices.{forwards, routes}
 use Rattle.xv_model.specs.source.Eas.{eas}
-use Rattle.xv_model.specs.call.Hypercalls.{bare_reply}
+use Rattle.xv_model.specs.call.Hypercalls.{reply_with}
 use Rattle.xv_model.specs.end.Descriptors.{config_by}
 use Rattle.xv_model.specs.end.EventStates.{esn}
 use Rattle.xv_model.specs.end.Written.{written}
@@ -52,7 +54,7 @@ enabling = by_one (op.Pq 0 (Set 0)) (out.Pq 1 0 0)
 
 -- the source is told its END and the EISN n
 abbrev pub telling : ℕ → Entry
-telling n = by_one (op.Hcall H_INT_SET_SOURCE_CONFIG (SRC_SET_EISN ∷ 0 ∷ 0 ∷ 0 ∷ n ∷ [])) (out.Reply (bare_reply H_SUCCESS))
+telling n = by_one (op.Hcall H_INT_SET_SOURCE_CONFIG (SRC_SET_EISN ∷ 0 ∷ 0 ∷ 0 ∷ n ∷ [])) (out.Reply (reply_with H_SUCCESS []))
 
 -- the source is triggered after n forwards
 abbrev pub triggering : ℕ → Entry

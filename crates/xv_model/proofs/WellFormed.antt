@@ -1,5 +1,5 @@
 -- The outcomes of a legal account are well-formed.
-use Rattle.std.proofs.Common.{ℕ, ◌≡◌, ◌==◌, ◌+◌, ◌<◌, ◌&&◌, Bool, true, false, not, if◌then◌else◌, ◌-◌, List, length, slice_get, Option, Some, None, refl, sym, subst}
+use Rattle.std.proofs.Common.{ℕ, ◌≡◌, ◌==◌, ◌+◌, ◌<◌, ◌≤◌, ◌&&◌, Bool, true, false, not, if◌then◌else◌, ◌-◌, List, [], length, slice_get, Option, Some, None, refl, sym, subst, arith}
 use Rattle.std.specs.Option.{option_map_or}
 use Rattle.xv_base.specs.Limits.{most_messages, most_forwards}
 use Rattle.xv_model.specs.declared.operations.Op.{Op}
@@ -7,6 +7,14 @@ use Rattle.xv_model.specs.declared.operations.Op.TheVariants as op
 use Rattle.xv_model.specs.declared.outcomes.Outcome.{Outcome}
 use Rattle.xv_model.specs.declared.outcomes.Outcome.TheVariants as out
 use Rattle.xv_model.specs.declared.outcomes.MoveRefused.TheVariants.{RingBusy, NoContext}
+use Rattle.xv_model.specs.declared.hypercalls.codes.TheConstants.{H_FUNCTION}
+use Rattle.xv_model.specs.declared.hypercalls.Call.{Call}
+use Rattle.xv_model.specs.declared.hypercalls.Call.TheVariants as call
+use Rattle.xv_model.specs.call.Arguments.{call_of}
+use Rattle.xv_model.specs.call.Accepted.{is_success}
+use Rattle.xv_model.specs.call.Checks.{code_of, checks}
+use Rattle.xv_model.specs.call.Outputs.{outputs}
+use Rattle.xv_model.specs.call.Hypercalls.{reply_with, call_reply}
 use Rattle.xv_model.specs.declared.messages.Message.{Message}
 use Rattle.xv_model.specs.declared.messages.Message.TheVariants as message
 use Rattle.xv_model.specs.declared.tima.RingOp.{RingOp}
@@ -72,6 +80,23 @@ tima_well_formed z h t (Some Accept) = on_well_formed (on_of z h t) (λ v. out.V
 tima_well_formed z h t (Some (Push cam)) = well_formed_if (not (is_cam z h cam)) _ _ tt (well_formed_if (not (is_restored t (phase z h (cam - cam_of 0)))) _ _ tt tt)
 tima_well_formed z h t (Some Pull) = on_well_formed (on_of z h t) (λ v. out.Value (cam_of v)) (λ v. tt)
 
+-- a call has no more than four outputs
+few_outputs : (z : Start) (h : List Entry) (c : Call) → length (outputs z h c) ≤ 4
+few_outputs z h (call.GetSourceInfo c) = omega arith
+few_outputs z h (call.GetSourceConfig c) = omega arith
+few_outputs z h (call.GetQueueInfo c) = omega arith
+few_outputs z h (call.GetQueueConfig c) = omega arith
+few_outputs z h _ = omega arith
+
+-- so its reply has room for them
+few_replied : (accepted : Bool) (shown : List ℕ) → length shown ≤ 4 → length (if accepted then shown else []) ≤ 4
+few_replied true shown few = few
+few_replied false shown few = omega arith
+
+reply_well_formed : (z : Start) (h : List Entry) (m : Option Call) → (option_map_or (call_reply z h) m (reply_with H_FUNCTION [])).outs ≤ 4
+reply_well_formed z h (Some c) = few_replied (is_success (code_of (checks z h c))) (outputs z h c) (few_outputs z h c)
+reply_well_formed z h None = omega arith
+
 -- an answer of an operation on no word is well-formed
 fabric_well_formed : (z : Start) (h : List Entry) (o : Op) → ((e : ℕ) → HasPairs z h e) → IsWellFormed (answer_on z h o (part_beside o))
 fabric_well_formed z h (op.Quiet s) w = well_formed_if ((outstanding z h s == 0) && (messages_of (flight z h) s == 0)) _ _ tt tt
@@ -81,7 +106,7 @@ fabric_well_formed z h (op.EndEsb e page offset store) w =
     let small = small_state z h e page (w e) in
     well_formed_if store _ _ tt (well_formed_if (is_valid (end_config z h e)) _ _ (small, small_load offset (state_of z h e page) small) tt)
 fabric_well_formed z h (op.EndSet e c) w = tt
-fabric_well_formed z h (op.Hcall number args) w = refl
+fabric_well_formed z h (op.Hcall number args) w = reply_well_formed z h (call_of number args)
 fabric_well_formed z h (op.Read e) w =
     let c = end_config z h e in
     let j = c.start + taken_count z h e in

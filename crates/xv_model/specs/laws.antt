@@ -6,3 +6,4 @@ pub mod Pending
 pub mod Acknowledgements
 pub mod Escalations
 pub mod Notices
+pub mod Hypercalls

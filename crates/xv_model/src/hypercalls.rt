@@ -1,71 +1,94 @@
-//! Hypercalls: their numbers, their codes, and the arguments of the one that is built (PAPR's H_INT calls;
-//! QEMU's hw/intc/spapr_xive.c).
+//! Hypercalls (PAPR's H_INT calls; QEMU's hw/intc/spapr_xive.c, Linux's arch/powerpc/sysdev/xive/spapr.c): their
+//! numbers, and the call that a number names, with its arguments. What they reply is computed elsewhere.
 
 ghost use Rattle.std.specs.Prelude.{◌≡◌};
-ghost use Rattle.xv_model.specs.call.Arguments.{source_config};
+ghost use Rattle.xv_model.specs.call.Arguments.{call_of};
 
-/// H_INT_SET_SOURCE_CONFIG says where the notices of a source go. Its arguments are [`SetSourceConfig`]
-/// (QEMU's hw/intc/spapr_xive.c, h_int_set_source_config).
+pub mod arguments;
+pub mod codes;
+pub mod flags;
+
+use crate::hypercalls::arguments::{
+    EsbArgs, GetQueueConfigArgs, GetQueueInfoArgs, GetSourceConfigArgs, GetSourceInfoArgs,
+    ResetArgs, SetQueueConfigArgs, SetSourceConfigArgs, SyncArgs,
+};
+
+/// Answers where the pages of a source lie, and what they can do (h_int_get_source_info).
+pub const H_INT_GET_SOURCE_INFO: u64 = 0x3a8;
+
+/// Says where the notices of a source go (h_int_set_source_config).
 pub const H_INT_SET_SOURCE_CONFIG: u64 = 0x3ac;
 
-/// The call is accepted.
-pub const H_SUCCESS: i64 = 0;
+/// Answers where the notices of a source go (h_int_get_source_config).
+pub const H_INT_GET_SOURCE_CONFIG: u64 = 0x3b0;
 
-/// The call doesn't have one of the flags.
-pub const H_PARAMETER: i64 = -4;
+/// Answers where the pages of an END lie (h_int_get_queue_info).
+pub const H_INT_GET_QUEUE_INFO: u64 = 0x3b4;
 
-/// The second argument is refused: of H_INT_SET_SOURCE_CONFIG the LISN, which is no source with a valid EAS.
-pub const H_P2: i64 = -55;
+/// Gives an END its queue, or resets it (h_int_set_queue_config).
+pub const H_INT_SET_QUEUE_CONFIG: u64 = 0x3b8;
 
-/// The third argument is refused: of H_INT_SET_SOURCE_CONFIG the target, which is no connected processor.
-pub const H_P3: i64 = -56;
+/// Answers which queue an END has (h_int_get_queue_config).
+pub const H_INT_GET_QUEUE_CONFIG: u64 = 0x3bc;
 
-/// The fourth argument is refused: of H_INT_SET_SOURCE_CONFIG the priority, which is the hypervisor's, or none.
-pub const H_P4: i64 = -57;
+/// Accesses the management page of a source for the guest (h_int_esb).
+pub const H_INT_ESB: u64 = 0x3c8;
 
-/// The flag of H_INT_SET_SOURCE_CONFIG that masks the EAS (QEMU's SPAPR_XIVE_SRC_MASK).
-pub const SRC_MASK: u64 = 1;
+/// Waits until a source is quiet (h_int_sync).
+pub const H_INT_SYNC: u64 = 0x3cc;
 
-/// The flag of H_INT_SET_SOURCE_CONFIG that sets the EISN (QEMU's SPAPR_XIVE_SRC_SET_EISN).
-pub const SRC_SET_EISN: u64 = 2;
+/// Resets all sources and ENDs (h_int_reset).
+pub const H_INT_RESET: u64 = 0x3d0;
 
-/// All flags of H_INT_SET_SOURCE_CONFIG.
-pub const SRC_FLAGS: u64 = SRC_MASK | SRC_SET_EISN;
-
-/// The priority by which H_INT_SET_SOURCE_CONFIG masks a source and forgets its END.
-pub const PRIORITY_MASKED: u64 = 0xff;
-
-/// The first priority that a guest can't have: 7 is the hypervisor's (QEMU's hw/intc/spapr_xive.c,
-/// spapr_xive_priority_is_reserved).
-pub const PRIORITY_RESERVED: u64 = 7;
-
-/// The arguments of H_INT_SET_SOURCE_CONFIG.
+/// A call that is known, with its arguments. H_INT_SET_OS_REPORTING_LINE and H_INT_GET_OS_REPORTING_LINE are not:
+/// they answer H_FUNCTION, as every other number does (QEMU's h_int_set_os_reporting_line).
 #[derive(Clone, Copy)]
-pub struct SetSourceConfig {
-    /// [`SRC_MASK`] and [`SRC_SET_EISN`].
-    pub flags: u64,
-    /// The source.
-    pub lisn: u64,
-    /// The processor that it notifies.
-    pub target: u64,
-    /// The priority that it notifies with, or [`PRIORITY_MASKED`].
-    pub priority: u64,
-    /// What is written for each notice; its low 31 bits count.
-    pub eisn: u64,
+pub enum Call {
+    GetSourceInfo { args: GetSourceInfoArgs },
+    SetSourceConfig { args: SetSourceConfigArgs },
+    GetSourceConfig { args: GetSourceConfigArgs },
+    GetQueueInfo { args: GetQueueInfoArgs },
+    SetQueueConfig { args: SetQueueConfigArgs },
+    GetQueueConfig { args: GetQueueConfigArgs },
+    Esb { args: EsbArgs },
+    Sync { args: SyncArgs },
+    Reset { args: ResetArgs },
 }
 
-impl SetSourceConfig {
-    /// The arguments in the order of the argument registers of a hypercall.
-    pub fn from_args(args: &[u64; 5]) -> SetSourceConfig
-        ensures { result ≡ source_config args.now }
+impl Call {
+    /// The call of a number, with the arguments in the order of the argument registers.
+    pub fn from_args(number: u64, args: &[u64; 5]) -> Option<Call>
+        ensures { result ≡ call_of number args.now }
     {
-        let [flags, lisn, target, priority, eisn] = *args;
-        SetSourceConfig {
-            flags,
-            lisn,
-            target,
-            priority,
-            eisn,
+        match number {
+            H_INT_GET_SOURCE_INFO => Some(Call::GetSourceInfo {
+                args: GetSourceInfoArgs::from_args(args),
+            }),
+            H_INT_SET_SOURCE_CONFIG => Some(Call::SetSourceConfig {
+                args: SetSourceConfigArgs::from_args(args),
+            }),
+            H_INT_GET_SOURCE_CONFIG => Some(Call::GetSourceConfig {
+                args: GetSourceConfigArgs::from_args(args),
+            }),
+            H_INT_GET_QUEUE_INFO => Some(Call::GetQueueInfo {
+                args: GetQueueInfoArgs::from_args(args),
+            }),
+            H_INT_SET_QUEUE_CONFIG => Some(Call::SetQueueConfig {
+                args: SetQueueConfigArgs::from_args(args),
+            }),
+            H_INT_GET_QUEUE_CONFIG => Some(Call::GetQueueConfig {
+                args: GetQueueConfigArgs::from_args(args),
+            }),
+            H_INT_ESB => Some(Call::Esb {
+                args: EsbArgs::from_args(args),
+            }),
+            H_INT_SYNC => Some(Call::Sync {
+                args: SyncArgs::from_args(args),
+            }),
+            H_INT_RESET => Some(Call::Reset {
+                args: ResetArgs::from_args(args),
+            }),
+            _ => None,
         }
     }
 }

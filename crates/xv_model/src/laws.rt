@@ -4,6 +4,7 @@ ghost use Rattle.xv_model.specs.account.Scripts.{EachHasAccount, OneAccount};
 ghost use Rattle.xv_model.specs.laws.Acknowledgements.{EachAcceptsMostFavoured, EachAnswersAccepted, EachLeavesAll, EachLeavesAlone};
 ghost use Rattle.xv_model.specs.laws.Entering.{EachEntersOnce, RoutedInOrder, RoutedOnceForwarded};
 ghost use Rattle.xv_model.specs.laws.Escalations.{EachEscalationRuns, EachSilentEscalates, EachUndeliveredEscalates};
+ghost use Rattle.xv_model.specs.laws.Hypercalls.{EachRefusedDoesNothing};
 ghost use Rattle.xv_model.specs.laws.Notices.{EachHasFewMessages, EachQuietIsQuiet, EachTakesFew};
 ghost use Rattle.xv_model.specs.laws.Pending.{EachHasOneUser, EachIsInRing, EachIsKeptOff, EachIsShown, EachIsUser, EachStaysPending};
 ghost use Rattle.xv_model.specs.laws.QueueExample.{ReadsTwoQueues};
@@ -81,4 +82,9 @@ pub fn escalations()
     ensures undelivered { EachUndeliveredEscalates }
     ensures silent { EachSilentEscalates }
     ensures runs { EachEscalationRuns }
+{}
+
+/// Of hypercalls: one that is refused has no outputs, and changes nothing.
+pub fn hypercalls()
+    ensures refused { EachRefusedDoesNothing }
 {}

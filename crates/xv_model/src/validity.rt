@@ -5,7 +5,6 @@ ghost use Rattle.xv_model.specs.processor.RingOps.{is_size};
 ghost use Rattle.xv_model.specs.board.Validity.{valid as is_valid, has_op, end_count, is_queue_shift, is_queue as may_be_queue, has_queue as has_its_queue, has_no_escalation as lacks_escalation, has_nothing, is_escalation_end as may_be_escalation_end, has_escalation, notifies_one, may_be_configured, valid_config as may_be_config, has_access as has_its_access};
 
 use crate::board::Board;
-use crate::hypercalls::H_INT_SET_SOURCE_CONFIG;
 use crate::operations::{Access, EndConfig, EndFlags, Op, PqOp};
 use crate::pages::END_PAGES;
 use crate::tima::TM_PAGES;
@@ -164,9 +163,8 @@ pub fn valid(board: &Board, op: &Op) -> bool
         Op::EndEsb { e, page, .. } => has_end(board, *e) && *page < END_PAGES,
         Op::Route { s } | Op::Quiet { s } => *s < board.limits.sources,
         Op::EndSet { e, config } => has_end(board, *e) && may_configure(board, *e, config),
-        Op::Hcall { number, args: _ } => *number == H_INT_SET_SOURCE_CONFIG,
         Op::Read { e } => has_end(board, *e),
-        Op::Take { .. } | Op::Peek { .. } | Op::Zero { .. } => true,
+        Op::Take { .. } | Op::Hcall { .. } | Op::Peek { .. } | Op::Zero { .. } => true,
         Op::Connect { v } | Op::Save { v } => *v < board.limits.processors,
         Op::Restore { v, t } => *v < board.limits.processors && *t < board.limits.threads,
         Op::Tima {

@@ -43,7 +43,7 @@ abbrev pub fabric_answer : Start → List Entry → Op → Outcome
 fabric_answer z h (op.Esb s page offset store) = untouched_answer store
 fabric_answer z h (op.EndEsb e page offset store) = end_page_answer z h e page offset store
 fabric_answer z h (op.EndSet e c) = out.Fine
-fabric_answer z h (op.Hcall number args) = out.Reply (hcall_reply z h args)
+fabric_answer z h (op.Hcall number args) = out.Reply (hcall_reply z h number args)
 fabric_answer z h (op.Take i) = take_outcome z h i
 fabric_answer z h (op.Connect v) = connect_outcome z h v
 fabric_answer z h (op.Restore v t) = restore_outcome z h v t

@@ -1,7 +1,6 @@
 -- Which operations a board has.
 use Rattle.std.specs.Prelude.{ℕ, ◌==◌, ◌+◌, ◌*◌, ◌^◌, ◌%◌, ◌-◌, nat_lt, nat_le, ◌&&◌, ◌||◌, not, Bool, true, false, if◌then◌else◌}
 use Rattle.xv_base.specs.Limits.{ends_per_processor}
-use Rattle.xv_model.specs.declared.hypercalls.TheConstants.{H_INT_SET_SOURCE_CONFIG}
 use Rattle.xv_model.specs.declared.pages.TheConstants.{END_PAGES}
 use Rattle.xv_model.specs.declared.tima.TheConstants.{TM_PAGES}
 use Rattle.xv_model.specs.declared.board.Board.{Board}
@@ -97,7 +96,7 @@ valid b (op.Esb s page offset store) = nat_lt s b.limits.sources && nat_lt page 
 valid b (op.EndEsb e page offset store) = nat_lt e (end_count b) && nat_lt page END_PAGES
 valid b (op.Route s) = nat_lt s b.limits.sources
 valid b (op.EndSet e c) = nat_lt e (end_count b) && may_be_configured b e c
-valid b (op.Hcall number args) = number == H_INT_SET_SOURCE_CONFIG
+valid b (op.Hcall number args) = true
 valid b (op.Take i) = true
 valid b (op.Quiet s) = nat_lt s b.limits.sources
 valid b (op.Connect v) = has_processor b v

@@ -1,27 +1,67 @@
 -- The configuration of an END: what it was told last.
-use Rattle.std.specs.Prelude.{ℕ, ◌==◌, if◌then◌else◌, List, [], ◌∷◌, Option, Some, None}
+use Rattle.std.specs.Prelude.{ℕ, ◌==◌, ◌+◌, Bool, if◌then◌else◌, List, [], ◌∷◌, Option, Some, None, option_and_then}
 use Rattle.std.specs.Option.{option_map_or}
+use Rattle.xv_model.specs.declared.hypercalls.flags.TheConstants.{END_ALWAYS_NOTIFY}
+use Rattle.xv_model.specs.declared.hypercalls.arguments.SetQueueConfigArgs.{SetQueueConfigArgs}
+use Rattle.xv_model.specs.declared.hypercalls.Call.{Call}
+use Rattle.xv_model.specs.declared.hypercalls.Call.TheVariants as call
 use Rattle.xv_model.specs.declared.operations.EndConfig.{EndConfig}
+use Rattle.xv_model.specs.declared.operations.EndFlags.{EndFlags}
 use Rattle.xv_model.specs.declared.operations.Op.{Op}
 use Rattle.xv_model.specs.declared.operations.Op.TheVariants as op
 use Rattle.xv_model.specs.declared.outcomes.Outcome.{Outcome}
 use Rattle.xv_model.specs.declared.outcomes.Outcome.TheVariants as out
 use Rattle.xv_model.specs.declared.entries.Entry.{Entry}
-use Rattle.xv_model.specs.account.Start.{Start}
+use Rattle.xv_model.specs.account.Start.{Start, no_config}
+use Rattle.xv_model.specs.call.Arguments.{end_of}
+use Rattle.xv_model.specs.call.Accepted.{call_in}
+use Rattle.xv_model.specs.end.Flags.{has_bit}
 
--- an END is told what to do
-pub record Configuration : Type 0 where
-  pub end : ℕ
-  pub config : EndConfig
+-- a configuration: an END is told what to do, or each one is reset
+pub data Configuration : Type 0 where
+  Told : (end : ℕ) → (config : EndConfig) → Configuration
+  EachReset : Configuration
 
--- the configuration of an END, where an entry is one
+-- whether H_INT_SET_QUEUE_CONFIG resets an END by its size
+abbrev pub resets : SetQueueConfigArgs → Bool
+resets c = c.size == 0
+
+-- the flags that H_INT_SET_QUEUE_CONFIG gives an END: v, q and b, and n where it always notifies
+abbrev pub flags_told : SetQueueConfigArgs → EndFlags
+flags_told c = record { 0 = 1 + 2 + 8 + (if has_bit c.flags END_ALWAYS_NOTIFY then 4 else 0) }
+
+-- the configuration with a queue that it gives an END
+abbrev pub queue_told : SetQueueConfigArgs → EndConfig
+queue_told c = record {
+  flags = flags_told c;
+  vp = c.target;
+  priority = c.priority;
+  qaddr = c.address;
+  qshift = c.size;
+  start = 0;
+  esc = 0;
+  esc_eisn = 0;
+}
+
+-- what an accepted H_INT_SET_QUEUE_CONFIG tells its END (QEMU's hw/intc/spapr_xive.c, h_int_set_queue_config)
+abbrev pub config_told : SetQueueConfigArgs → EndConfig
+config_told c = if resets c then no_config else queue_told c
+
+-- the configuration that an accepted call is, where it is one: H_INT_RESET resets each END (spapr_xive_reset)
+abbrev pub configuration_by : Call → Option Configuration
+configuration_by (call.SetQueueConfig c) = Some (Told (end_of c.target c.priority) (config_told c))
+configuration_by (call.Reset c) = Some EachReset
+configuration_by _ = None
+
+-- the configuration, where an entry is one
 abbrev pub configuration_in : Op → Outcome → Option Configuration
-configuration_in (op.EndSet e c) out.Fine = Some (record { end = e; config = c })
-configuration_in _ _ = None
+configuration_in (op.EndSet e c) out.Fine = Some (Told e c)
+configuration_in o u = option_and_then configuration_by (call_in o u)
 
--- what a configuration says, where it is of e
+-- what a configuration says of e, where it is one of e
 abbrev pub config_at : ℕ → Option Configuration → Option EndConfig
-config_at e (Some c) = if c.end == e then Some c.config else None
+config_at e (Some (Told end c)) = if end == e then Some c else None
+config_at e (Some EachReset) = Some no_config
 config_at e None = None
 
 -- what an entry tells e, where it configures it

@@ -10,7 +10,7 @@ use Rattle.xv_model.specs.declared.outcomes.Outcome.{Outcome}
 use Rattle.xv_model.specs.declared.outcomes.Outcome.TheVariants as out
 use Rattle.xv_model.specs.declared.entries.Entry.{Entry}
 use Rattle.xv_model.specs.account.Start.{Start}
-use Rattle.xv_model.specs.source.Eas.{is_success}
+use Rattle.xv_model.specs.call.Accepted.{is_success}
 use Rattle.xv_model.specs.processor.Priorities.{byte_of, least_of, no_priority}
 use Rattle.xv_model.specs.declared.tima.RingOp.{RingOp}
 use Rattle.xv_model.specs.declared.tima.RingOp.TheVariants.{SetCppr}

@@ -1,43 +1,46 @@
--- The EAS of a source, by the hypercall H_INT_SET_SOURCE_CONFIG (QEMU's hw/intc/spapr_xive.c, h_int_set_source_config).
-use Rattle.std.specs.Prelude.{ℕ, ℤ, pos, negsuc, ◌==◌, ◌+◌, ◌*◌, ◌^◌, ◌%◌, ◌&&◌, Bool, true, false, if◌then◌else◌, List, [], ◌∷◌, Option, Some, None}
+-- The EAS of a source: what the calls say of it that were accepted (QEMU's hw/intc/spapr_xive.c, h_int_set_source_config and spapr_xive_reset).
+use Rattle.std.specs.Prelude.{ℕ, ◌==◌, ◌^◌, ◌%◌, Bool, true, if◌then◌else◌, List, [], ◌∷◌}
 use Rattle.std.specs.Option.{option_map_or}
-use Rattle.xv_base.specs.Limits.{ends_per_processor}
-use Rattle.xv_model.specs.declared.hypercalls.TheConstants.{H_INT_SET_SOURCE_CONFIG, SRC_MASK, SRC_SET_EISN, PRIORITY_MASKED}
-use Rattle.xv_model.specs.declared.hypercalls.SetSourceConfig.{SetSourceConfig}
+use Rattle.xv_model.specs.declared.hypercalls.flags.TheConstants.{SRC_MASK, SRC_SET_EISN, PRIORITY_MASKED}
+use Rattle.xv_model.specs.declared.hypercalls.arguments.SetSourceConfigArgs.{SetSourceConfigArgs}
+use Rattle.xv_model.specs.declared.hypercalls.Call.{Call}
+use Rattle.xv_model.specs.declared.hypercalls.Call.TheVariants as call
 use Rattle.xv_model.specs.declared.eas.Eas.{Eas}
-use Rattle.xv_model.specs.declared.operations.Op.{Op}
-use Rattle.xv_model.specs.declared.operations.Op.TheVariants as op
-use Rattle.xv_model.specs.declared.outcomes.Outcome.{Outcome}
-use Rattle.xv_model.specs.declared.outcomes.Outcome.TheVariants as out
 use Rattle.xv_model.specs.declared.entries.Entry.{Entry}
 use Rattle.xv_model.specs.account.Start.{Start}
-use Rattle.xv_model.specs.call.Arguments.{source_config}
+use Rattle.xv_model.specs.call.Arguments.{end_of}
+use Rattle.xv_model.specs.call.Accepted.{call_in}
 use Rattle.xv_model.specs.end.Flags.{has_bit}
-
--- whether a call's code says that it is accepted
-abbrev pub is_success : ℤ → Bool
-is_success (pos n) = n == 0
-is_success (negsuc n) = false
-
--- the arguments of an accepted H_INT_SET_SOURCE_CONFIG, where an entry is one
-abbrev pub source_config_in : Op → Outcome → Option SetSourceConfig
-source_config_in (op.Hcall number args) (out.Reply reply) = if (number == H_INT_SET_SOURCE_CONFIG) && is_success reply.code then Some (source_config args) else None
-source_config_in _ _ = None
 
 -- a valid EAS that is masked, and has no END
 abbrev pub masked_off : Eas
 masked_off = record { valid = true; masked = true; end = 0; eisn = 0 }
 
--- an EAS after an accepted H_INT_SET_SOURCE_CONFIG: one priority masks it off; one flag masks it, and one sets the EISN, of which the low 31 bits count
-abbrev pub eas_by : SetSourceConfig → Eas → Eas
-eas_by c before =
-    if c.priority == PRIORITY_MASKED then masked_off
-    else record { valid = true; masked = has_bit c.flags SRC_MASK; end = ends_per_processor * c.target + c.priority; eisn = if has_bit c.flags SRC_SET_EISN then c.eisn % 2 ^ 31 else before.eisn }
+-- whether H_INT_SET_SOURCE_CONFIG masks a source off by its priority
+abbrev pub masks : SetSourceConfigArgs → Bool
+masks c = c.priority == PRIORITY_MASKED
 
--- the EAS of s is what the last accepted H_INT_SET_SOURCE_CONFIG of it says
+-- an EAS after an accepted H_INT_SET_SOURCE_CONFIG: one priority masks it off; one flag masks it, and one sets the EISN, of which the low 31 bits count
+abbrev pub eas_by : SetSourceConfigArgs → Eas → Eas
+eas_by c before =
+    if masks c then masked_off
+    else record {
+      valid = true;
+      masked = has_bit c.flags SRC_MASK;
+      end = end_of c.target c.priority;
+      eisn = if has_bit c.flags SRC_SET_EISN then c.eisn % 2 ^ 31 else before.eisn;
+    }
+
+-- the EAS of s after an accepted call: H_INT_RESET masks off each one that is valid
+abbrev pub eas_after : Call → ℕ → Eas → Eas
+eas_after (call.SetSourceConfig c) s before = if c.lisn == s then eas_by c before else before
+eas_after (call.Reset c) s before = if before.valid then masked_off else before
+eas_after _ s before = before
+
+-- the EAS of s is what the last accepted call says of it
 abbrev pub eas : Start → List Entry → ℕ → Eas
 eas z [] s = z.eas s
-eas z (x ∷ h) s = let before = eas z h s in option_map_or (λ c. if c.lisn == s then eas_by c before else before) (source_config_in x.op x.outcome) before
+eas z (x ∷ h) s = let before = eas z h s in option_map_or (λ c. eas_after c s before) (call_in x.op x.outcome) before
 
 -- whether a source is initialised: its EAS is valid
 abbrev pub initialised : Start → List Entry → ℕ → Bool

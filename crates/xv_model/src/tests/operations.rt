@@ -107,23 +107,8 @@ fn valid_addresses(rt: HostRuntime) {
 #[test]
 fn valid_hypercalls(rt: HostRuntime) {
     let board = small_board();
-    let args = [0, 1, 2, 3, 4];
-    assert!(rt;
-        valid(
-            &board,
-            &Op::Hcall {
-                number: 0x3ac,
-                args
-            }
-        )
-    );
-    assert!(rt;
-        !valid(
-            &board,
-            &Op::Hcall {
-                number: 0x3b8,
-                args
-            }
-        )
-    );
+    for number in [0, 0x3ac, 0x3c0, 0x3d0, u64::MAX] {
+        let args = [number, 1, 2, 3, u64::MAX];
+        assert!(rt; valid(&board, &Op::Hcall { number, args }));
+    }
 }
