@@ -1,0 +1,2 @@
+-- What is kept of sources.
+pub mod Table
