@@ -1,2 +1,5 @@
 -- Lemmas.
+pub mod Entering
+pub mod Placing
+pub mod Ranges
 pub mod Steps

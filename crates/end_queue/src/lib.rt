@@ -10,4 +10,5 @@ mod reader;
 mod tests;
 
 pub use ends::Ends;
+pub use queues::QueueEntry;
 pub use reader::Reader;

@@ -1,14 +1,15 @@
 //! The event queues of ENDs: what is written into them, and what is read.
 
-ghost use Rattle.std.specs.Prelude.{◌≡◌, ◌*◌, ◌/◌, ◌^◌, ◌<◌, ◌↔◌, IsTrue, length, slice_set, false};
+ghost use Rattle.std.specs.Prelude.{◌≡◌, ◌*◌, ◌/◌, ◌%◌, ◌^◌, ◌<◌, ◌↔◌, IsTrue, length, slice_set, false};
 ghost use Rattle.xv_model.specs.declared.outcomes.Outcome.TheVariants.{NoQueue};
-ghost use Rattle.xv_model.specs.end.Memory.{wrote_at};
+ghost use Rattle.xv_model.specs.end.Memory.{entries as entries_of, generation as generation_of, wrote_at};
+ghost use Rattle.xv_model.specs.end.Flags.{enqueues};
 ghost use Rattle.xv_model.specs.board.Validity.{fits};
 ghost use Rattle.end_queue.specs.Ends.{HasPage, HasRoom, end_in, has_queue};
 ghost use Rattle.end_queue.specs.Queues.{entered, next_number, read_in, after_read};
 
 use crate::ends::Ends;
-use crate::places::{generation, place};
+use crate::places::{entries, generation, place};
 use bitflags::Flags;
 use guest_ram::Ram;
 use xv_model::operations::{EndConfig, EndFlags};
@@ -21,7 +22,31 @@ pub(crate) fn is_queued(config: &EndConfig) -> bool
     config.flags.contains(EndFlags::VALID) && config.flags.contains(EndFlags::ENQUEUE)
 }
 
+/// An entry of a queue: its generation, and its index from the start of the page.
+#[derive(Clone, Copy)]
+pub struct QueueEntry {
+    pub generation: u32,
+    pub index: u64,
+}
+
 impl Ends {
+    /// The entry that is written next into the queue of an END.
+    pub fn next_entry(&self, e: u32) -> QueueEntry
+        requires end { e < length self.now }
+        requires queue { IsTrue (enqueues (end_in self.now e).config) }
+        requires room { HasRoom (end_in self.now e) }
+        ensures generation { result.generation ≡ generation_of (end_in self.now e).config (next_number (end_in self.now e)) }
+        ensures bit { result.generation < 2 }
+        ensures index { result.index ≡ next_number (end_in self.now e) % entries_of (end_in self.now e).config }
+    {
+        let end = &self.records[e as usize];
+        let number = end.config.start + end.written;
+        QueueEntry {
+            generation: generation(&end.config, number),
+            index: number % entries(&end.config),
+        }
+    }
+
     /// Writes a payload of 31 bits into the queue of an END, as its next entry, and says which word was written
     /// where (QEMU's hw/intc/xive.c, xive_end_enqueue). The generation is the word's top bit.
     pub fn enqueue(&mut self, ram: &mut Ram, e: u32, eisn: u32) -> Wrote
