@@ -1,0 +1,4 @@
+-- Lemmas.
+pub mod Entering
+pub mod InRange
+pub mod Told

@@ -1,0 +1,33 @@
+use Rattle.std.proofs.Common.{ℕ, ◌<◌, ◌==◌, if◌then◌else◌, List, length, Some, rules, sym, ◌∙◌, ap, subst, slice_get}
+use Rattle.std.specs.Prelude.{All}
+use Rattle.std.proofs.lemmas.List.Elements.{All-set}
+use Rattle.xv_model.specs.declared.hypercalls.Call.TheVariants.{SetQueueConfig}
+use Rattle.xv_model.specs.declared.outcomes.HReply.{HReply}
+use Rattle.xv_model.specs.end.Descriptors.{config_told}
+use Rattle.xv_model.proofs.Elements.{set_by}
+use Rattle.end_queue.specs.declared.ends.EndRecord.{EndRecord}
+use Rattle.end_queue.specs.Accounts.{IsEnd}
+use Rattle.end_queue.specs.Ends.{configured, first_end}
+use Rattle.end_queue.proofs.Ranges.{configured_in_range}
+use Rattle.hint_calls.specs.Changes.{accepted_by, end_by_call}
+use Rattle.hint_calls.proofs.Told.{told_at}
+use Rattle.hint_calls.proofs.queues.set_queue_config.Goals as goal
+
+pub returns-clause-ends : goal.returns-clause-ends
+returns-clause-ends c = λ j r there.
+    let ends = c.args.ends.now in
+    let args = c.args.args.now in
+    let e = c.end_of-e.result in
+    let config = c.config_told-config.result in
+    let inside : e < length ends = search rules in
+    ap (λ (es : List EndRecord). slice_get es j) c.configure.ensures
+    ∙ set_by ends e (configured config) first_end (λ k. configured (config_told args)) inside (ap configured c.config_told-config.ensures.value) j r there
+    ∙ ap Some (ap (λ (n : ℕ). if n == j then configured (config_told args) else r) c.end_of-e.ensures.value ∙ told_at args j r
+    ∙ sym (ap (λ (reply : HReply). end_by_call (accepted_by reply.code (SetQueueConfig args)) j r) c.reply-2.ensures.value))
+
+pub returns-clause-in_range : goal.returns-clause-in_range
+returns-clause-in_range c =
+    let b = c.args.board.now in
+    let config = c.config_told-config.result in
+    subst (λ (es : List EndRecord). All (IsEnd b) es) (sym c.configure.ensures)
+    (All-set (IsEnd b) c.args.ends.now c.end_of-e.result (configured config) (configured_in_range b config c.config_told-config.ensures.valid) c.requires.in_range)
