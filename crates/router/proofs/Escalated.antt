@@ -30,10 +30,10 @@ use Rattle.xv_model.specs.route.Taking.{escalates_on, escalate_outcome}
 use Rattle.end_queue.specs.declared.ends.EndRecord.{EndRecord}
 use Rattle.end_queue.specs.Ends.{first_end, end_in, with_ese}
 use Rattle.router.specs.Passes.{after_pass, pass_by, made_for}
-use Rattle.router.specs.Tables.{Kept, StandsFor, end_of}
-use Rattle.router.proofs.Configured.{at_same, at_other}
-use Rattle.router.proofs.Elements.{set_gives, read}
-use Rattle.router.proofs.Keeping.{end_by, nothing_entered}
+use Rattle.router.specs.Tables.{Kept, StandsFor}
+use Rattle.end_queue.specs.Accounts.{record_of}
+use Rattle.xv_model.proofs.Elements.{at_same, at_other, set_gives, read}
+use Rattle.end_queue.proofs.Entering.{record_by, nothing_entered}
 use Rattle.router.proofs.Ran.{counted_in, count_by, end_ran, ran}
 use Rattle.router.proofs.Routed.{end_found}
 use Rattle.router.proofs.Taken.{asked}
@@ -54,16 +54,16 @@ with_both t ends messages = record {
 
 -- END j after an escalation with these flags asked the state of e
 abbrev pub asked_of : Start → List Entry → ℕ → Bool → ℕ → EndRecord
-asked_of z h e always j = with_ese (if option_map_or (λ end. end == j) (if always then None else Some e) false then (trigger_row (ese z h j)).pair else ese z h j) (end_of z h j)
+asked_of z h e always j = with_ese (if option_map_or (λ end. end == j) (if always then None else Some e) false then (trigger_row (ese z h j)).pair else ese z h j) (record_of z h j)
 
 asked_here : (z : Start) (h : List Entry) (e : ℕ) (always : Bool) →
-    with_ese (if always then ese z h e else (trigger_row (ese z h e)).pair) (end_of z h e) ≡ asked_of z h e always e
+    with_ese (if always then ese z h e else (trigger_row (ese z h e)).pair) (record_of z h e) ≡ asked_of z h e always e
 asked_here z h e true = refl
-asked_here z h e false = sym (ap (λ state. with_ese state (end_of z h e)) (at_same e (trigger_row (ese z h e)).pair (ese z h e)))
+asked_here z h e false = sym (ap (λ state. with_ese state (record_of z h e)) (at_same e (trigger_row (ese z h e)).pair (ese z h e)))
 
-asked_there : (z : Start) (h : List Entry) (e : ℕ) (always : Bool) (j : ℕ) → j ≢ e → asked_of z h e always j ≡ end_of z h j
+asked_there : (z : Start) (h : List Entry) (e : ℕ) (always : Bool) (j : ℕ) → j ≢ e → asked_of z h e always j ≡ record_of z h j
 asked_there z h e true j other = refl
-asked_there z h e false j other = ap (λ state. with_ese state (end_of z h j)) (at_other e j (trigger_row (ese z h j)).pair (ese z h j) other)
+asked_there z h e false j other = ap (λ state. with_ese state (record_of z h j)) (at_other e j (trigger_row (ese z h j)).pair (ese z h j) other)
 
 -- the state of a record after it is asked
 abbrev state_asked : Bool → EndRecord → ℕ
@@ -78,7 +78,7 @@ asked_gives t z h e state always ends st l is are j lj =
     let r = end_in t.ends e in
     let here : with_ese state r ≡ asked_of z h e always e = ap (λ s. with_ese s r) is ∙ ap (λ (x : EndRecord). with_ese (state_asked always x) x) (end_found t z h e st l) ∙ asked_here z h e always in
     ap (λ (es : List EndRecord). slice_get es j) are
-    ∙ set_gives t.ends e (ends_per_processor * z.board.limits.processors) (with_ese state r) (end_of z h) (asked_of z h e always) st.ends inside here (asked_there z h e always) j lj
+    ∙ set_gives t.ends e (ends_per_processor * z.board.limits.processors) (with_ese state r) (record_of z h) (asked_of z h e always) st.ends inside here (asked_there z h e always) j lj
 
 -- the tables after an escalation that was coalesced
 pub coalesced_stands : (t : Kept) (z : Start) (h : List Entry) (actor i e esc p origin : ℕ) (flags : EndFlags) (ends : List EndRecord) (messages : List Message) → StandsFor t z h →
@@ -99,15 +99,15 @@ coalesced_stands t z h actor i e esc p origin flags ends messages st found gives
     }
   where
     unrun : (j : ℕ) → slice_get (flight z h) i ≡ Some (message.Escalate e flags esc p origin) →
-        with_ese (asked z h j (slice_get (flight z h) i)) (end_by z h j (written z h j ++ []) (taken h j ++ [])) ≡ asked_of z h e (always_escalates flags) j
-    unrun j is = ap (λ (n : Option Message). with_ese (asked z h j n) (end_by z h j (written z h j ++ []) (taken h j ++ []))) is
+        with_ese (asked z h j (slice_get (flight z h) i)) (record_by z h j (written z h j ++ []) (taken h j ++ [])) ≡ asked_of z h e (always_escalates flags) j
+    unrun j is = ap (λ (n : Option Message). with_ese (asked z h j n) (record_by z h j (written z h j ++ []) (taken h j ++ []))) is
         ∙ ap (with_ese (asked_of z h e (always_escalates flags) j).ese) (nothing_entered z h j)
 
 -- an END after the pass that an escalation makes
 escalated_ran : (z : Start) (h : List Entry) (actor i e esc p origin j : ℕ) (flags : EndFlags) (w : Wrote) (next : Then) (q : Bool) →
     slice_get (flight z h) i ≡ Some (message.Escalate e flags esc p origin) →
-    end_of z (escalating actor i e (Some (Ran esc (if q then Some w else None) next)) ∷ h) j
-    ≡ with_ese (asked_of z h e (always_escalates flags) j).ese (if esc == j then counted_in z h j true (count_by z h j q) (taken h j) else end_of z h j)
+    record_of z (escalating actor i e (Some (Ran esc (if q then Some w else None) next)) ∷ h) j
+    ≡ with_ese (asked_of z h e (always_escalates flags) j).ese (if esc == j then counted_in z h j true (count_by z h j q) (taken h j) else record_of z h j)
 escalated_ran z h actor i e esc p origin j flags w next q is =
     ap (λ (n : Option Message). end_ran z h j (esc == j) (option_map_or (λ end. if end == j then option_map_or payload_in n [] else [])
     (wrote_in (Some (Ran esc (if q then Some w else None) next))) []) (asked z h j n)) is
@@ -116,15 +116,15 @@ escalated_ran z h actor i e esc p origin j flags w next q is =
 -- and after an escalation whose END isn't valid
 escalated_left : (z : Start) (h : List Entry) (actor i e esc p origin j : ℕ) (flags : EndFlags) →
     slice_get (flight z h) i ≡ Some (message.Escalate e flags esc p origin) →
-    end_of z (escalating actor i e (Some (NoEnd esc)) ∷ h) j ≡ asked_of z h e (always_escalates flags) j
+    record_of z (escalating actor i e (Some (NoEnd esc)) ∷ h) j ≡ asked_of z h e (always_escalates flags) j
 escalated_left z h actor i e esc p origin j flags is =
-    ap (λ (n : Option Message). with_ese (asked z h j n) (end_by z h j (written z h j ++ []) (taken h j ++ []))) is
+    ap (λ (n : Option Message). with_ese (asked z h j n) (record_by z h j (written z h j ++ []) (taken h j ++ []))) is
     ∙ ap (with_ese (asked_of z h e (always_escalates flags) j).ese) (nothing_entered z h j)
 
 -- the tables after an escalation by which the ENDs and the messages are these
 escalating_stands : (t : Kept) (z : Start) (h : List Entry) (actor i e esc p origin : ℕ) (flags : EndFlags) (run : EndRun) (ends : List EndRecord) (sent : List Message) → StandsFor t z h →
     slice_get (flight z h) i ≡ Some (message.Escalate e flags esc p origin) →
-    ((j : ℕ) → j < ends_per_processor * z.board.limits.processors → slice_get ends j ≡ Some (end_of z (escalating actor i e (Some run) ∷ h) j)) →
+    ((j : ℕ) → j < ends_per_processor * z.board.limits.processors → slice_get ends j ≡ Some (record_of z (escalating actor i e (Some run) ∷ h) j)) →
     sent ≡ made_by z h origin (Some run) →
     StandsFor (with_both t ends (remove t.messages i ++ sent)) z (escalating actor i e (Some run) ∷ h)
 escalating_stands t z h actor i e esc p origin flags run ends sent st is ends_are sent_are = record {
@@ -149,13 +149,13 @@ escalated_by t z h actor i e esc p origin flags w next writes true ends st is gi
     let run = Ran esc (if writes then Some w else None) next in
     let state = λ (j : ℕ). (asked_of z h e (always_escalates flags) j).ese in
     escalating_stands t z h actor i e esc p origin flags run _ _ st is
-    (set_gives ends esc (ends_per_processor * z.board.limits.processors) _ (asked_of z h e (always_escalates flags)) (end_of z (escalating actor i e (Some run) ∷ h)) gives l
-    (sym (escalated_ran z h actor i e esc p origin esc flags w next writes is ∙ ap (with_ese (state esc)) (at_same esc _ (end_of z h esc))))
-    (λ j other. escalated_ran z h actor i e esc p origin j flags w next writes is ∙ ap (with_ese (state j)) (at_other esc j _ (end_of z h j) other)))
+    (set_gives ends esc (ends_per_processor * z.board.limits.processors) _ (asked_of z h e (always_escalates flags)) (record_of z (escalating actor i e (Some run) ∷ h)) gives l
+    (sym (escalated_ran z h actor i e esc p origin esc flags w next writes is ∙ ap (with_ese (state esc)) (at_same esc _ (record_of z h esc))))
+    (λ j other. escalated_ran z h actor i e esc p origin j flags w next writes is ∙ ap (with_ese (state j)) (at_other esc j _ (record_of z h j) other)))
     refl
 escalated_by t z h actor i e esc p origin flags w next writes false ends st is gives l =
     escalating_stands t z h actor i e esc p origin flags (NoEnd esc) _ _ st is
-    (set_gives ends esc (ends_per_processor * z.board.limits.processors) (asked_of z h e (always_escalates flags) esc) (asked_of z h e (always_escalates flags)) (end_of z (escalating actor i e (Some (NoEnd esc)) ∷ h)) gives l
+    (set_gives ends esc (ends_per_processor * z.board.limits.processors) (asked_of z h e (always_escalates flags) esc) (asked_of z h e (always_escalates flags)) (record_of z (escalating actor i e (Some (NoEnd esc)) ∷ h)) gives l
     (sym (escalated_left z h actor i e esc p origin esc flags is))
     (λ j other. escalated_left z h actor i e esc p origin j flags is))
     refl

@@ -1,5 +1,5 @@
 -- Entries that leave what the tables represent.
-use Rattle.std.proofs.Common.{ℕ, ◌≡◌, ◌+◌, Bool, true, false, List, [], ◌∷◌, ◌++◌, length, Option, Some, None, refl, sym, ◌∙◌, ap, arith, slice_get}
+use Rattle.std.proofs.Common.{ℕ, ◌≡◌, Bool, true, false, List, [], ◌∷◌, ◌++◌, Option, Some, None, refl, sym, ◌∙◌, ap, arith, slice_get}
 use Rattle.std.proofs.lemmas.List.{append-nil}
 use Rattle.std.specs.Option.{option_map_or}
 use Rattle.xv_model.specs.declared.messages.Message.{Message}
@@ -13,7 +13,6 @@ use Rattle.xv_model.specs.account.Start.{Start}
 use Rattle.xv_model.specs.account.Kinds.{is_fabric}
 use Rattle.xv_model.specs.source.Notices.{routes}
 use Rattle.xv_model.specs.source.Eas.{eas}
-use Rattle.xv_model.specs.end.Descriptors.{end_config, until_config}
 use Rattle.xv_model.specs.end.EventStates.{esn, ese}
 use Rattle.xv_model.specs.end.Written.{written}
 use Rattle.xv_model.specs.end.Reading.{taken}
@@ -21,25 +20,13 @@ use Rattle.xv_model.specs.route.Flight.{flight}
 use Rattle.xv_model.proofs.HalvesLemmas.{routes-skips}
 use Rattle.xv_model.proofs.FabricHalves.{eas-skips, end_config-skips, written_count-skips, taken_count-skips, esn-skips, ese-skips, flight-skips}
 use Rattle.end_queue.specs.declared.ends.EndRecord.{EndRecord}
-use Rattle.router.specs.Tables.{Kept, StandsFor, end_of}
-
--- an END after these were written for it, and these were taken
-abbrev pub end_by : Start → List Entry → ℕ → List ℕ → List ℕ → EndRecord
-end_by z h e ws ts = record {
-  config = end_config z h e;
-  written = length ws + until_config (z.written_count e) h e;
-  taken = length ts + until_config (z.taken_count e) h e;
-  esn = esn z h e;
-  ese = ese z h e;
-}
-
--- an END into whose queue nothing more is written, and from which nothing more is taken
-pub nothing_entered : (z : Start) (h : List Entry) (e : ℕ) → end_by z h e (written z h e ++ []) (taken h e ++ []) ≡ end_of z h e
-nothing_entered z h e = λ i. end_by z h e (append-nil (written z h e) i) (append-nil (taken h e) i)
+use Rattle.end_queue.proofs.Entering.{nothing_entered}
+use Rattle.router.specs.Tables.{Kept, StandsFor}
+use Rattle.end_queue.specs.Accounts.{record_of}
 
 -- an entry that changes nothing of what the account gives leaves what the tables represent
 pub nothing_keeps : (t : Kept) (z : Start) (h : List Entry) (x : Entry) →
-    ((s : ℕ) → eas z (x ∷ h) s ≡ eas z h s) → ((s : ℕ) → routes z (x ∷ h) s ≡ routes z h s) → ((e : ℕ) → end_of z (x ∷ h) e ≡ end_of z h e) → flight z (x ∷ h) ≡ flight z h →
+    ((s : ℕ) → eas z (x ∷ h) s ≡ eas z h s) → ((s : ℕ) → routes z (x ∷ h) s ≡ routes z h s) → ((e : ℕ) → record_of z (x ∷ h) e ≡ record_of z h e) → flight z (x ∷ h) ≡ flight z h →
     StandsFor t z h → StandsFor t z (x ∷ h)
 nothing_keeps t z h x eases routed ends messages st = record {
   board = st.board;
@@ -98,5 +85,5 @@ word_keeps t z h x other = nothing_keeps t z h x (λ s. eas-skips z s x h other)
     make : EndConfig → ℕ → ℕ → ℕ → ℕ → EndRecord
     make c written taken esn ese = record { config = c; written = written; taken = taken; esn = esn; ese = ese }
 
-    same : (e : ℕ) → end_of z (x ∷ h) e ≡ end_of z h e
+    same : (e : ℕ) → record_of z (x ∷ h) e ≡ record_of z h e
     same e = λ i. make (end_config-skips z e x h other i) (written_count-skips z e x h other i) (taken_count-skips z e x h other i) (esn-skips z e x h other i) (ese-skips z e x h other i)

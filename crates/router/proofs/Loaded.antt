@@ -20,22 +20,21 @@ use Rattle.xv_model.specs.end.Reading.{taken}
 use Rattle.xv_model.specs.route.Flight.{flight}
 use Rattle.end_queue.specs.declared.ends.EndRecord.{EndRecord}
 use Rattle.end_queue.specs.Ends.{first_end, end_in, HasCountsAtMost}
-use Rattle.router.specs.Ends.{IsEnd}
+use Rattle.end_queue.specs.Accounts.{IsEnd, record_of}
 use Rattle.router.specs.Pages.{state_in, with_state, after_load}
-use Rattle.router.specs.Tables.{Kept, StandsFor, end_of}
+use Rattle.router.specs.Tables.{Kept, StandsFor}
 use Rattle.xv_model.proofs.SmallStates.{small_load}
-use Rattle.router.proofs.Configured.{at_same, at_other}
-use Rattle.router.proofs.Elements.{set_gives, read}
-use Rattle.router.proofs.Keeping.{nothing_entered}
+use Rattle.xv_model.proofs.Elements.{at_same, at_other, set_gives, read}
+use Rattle.end_queue.proofs.Entering.{nothing_entered}
 
 -- an access to a page of e
 abbrev pub end_access : ℕ → ℕ → ℕ → ℕ → Bool → Outcome → Entry
 end_access actor e page offset store u = record { actor = actor; op = op.EndEsb e page offset store; outcome = u }
 
 -- what is kept of e is what the account gives
-pub kept_end : (t : Kept) (z : Start) (h : List Entry) (e : ℕ) → StandsFor t z h → e < ends_per_processor * t.board.limits.processors → end_in t.ends e ≡ end_of z h e
+pub kept_end : (t : Kept) (z : Start) (h : List Entry) (e : ℕ) → StandsFor t z h → e < ends_per_processor * t.board.limits.processors → end_in t.ends e ≡ record_of z h e
 kept_end t z h e st l =
-    read t.ends e (ends_per_processor * z.board.limits.processors) (end_in t.ends e) first_end (end_of z h) st.ends
+    read t.ends e (ends_per_processor * z.board.limits.processors) (end_in t.ends e) first_end (record_of z h) st.ends
     (subst (λ (b : Board). e < ends_per_processor * b.limits.processors) st.board l) refl
 
 -- a load where it is
@@ -58,7 +57,7 @@ loaded_by z h j n m = record {
 
 -- the same without the queue into which nothing is written
 without_queue : (z : Start) (h : List Entry) (j : ℕ) (n m : Option ℕ) →
-    let r = end_of z h j in
+    let r = record_of z h j in
     let s : EndRecord = record { config = r.config; written = r.written; taken = r.taken; esn = option_map_or (λ new. new) n r.esn; ese = option_map_or (λ new. new) m r.ese } in
     loaded_by z h j n m ≡ s
 without_queue z h j n m = ap (λ (r : EndRecord). let s : EndRecord = record { config = r.config; written = r.written; taken = r.taken; esn = option_map_or (λ new. new) n (esn z h j); ese = option_map_or (λ new. new) m (ese z h j) } in s) (nothing_entered z h j)
@@ -69,7 +68,7 @@ put first r state = record { config = r.config; written = r.written; taken = r.t
 
 -- a load, by whether it is of page 0, and of this END
 picked : (z : Start) (h : List Entry) (j new : ℕ) (first here : Bool) →
-    loaded_by z h j (if first && here then Some new else None) (if not first && here then Some new else None) ≡ (if here then put first (end_of z h j) new else end_of z h j)
+    loaded_by z h j (if first && here then Some new else None) (if not first && here then Some new else None) ≡ (if here then put first (record_of z h j) new else record_of z h j)
 picked z h j new true true = without_queue z h j (Some new) None
 picked z h j new false true = without_queue z h j None (Some new)
 picked z h j new true false = without_queue z h j None None
@@ -81,7 +80,7 @@ one_or_zero page l = grind (arith, nat_tests)
 
 -- what a load of a page of e makes of END j
 after : (z : Start) (h : List Entry) (e j actor page offset old new : ℕ) (store : Bool) → page < END_PAGES →
-    end_of z (end_access actor e page offset store (out.EndPq old new) ∷ h) j ≡ (if e == j then with_state (end_of z h j) page new else end_of z h j)
+    record_of z (end_access actor e page offset store (out.EndPq old new) ∷ h) j ≡ (if e == j then with_state (record_of z h j) page new else record_of z h j)
 after z h e j actor page offset old new store l =
     ap (λ second. loaded_by z h j (if (page == 0) && (e == j) then Some new else None) (if second && (e == j) then Some new else None)) (one_or_zero page l)
     ∙ picked z h j new (page == 0) (e == j)
@@ -107,10 +106,10 @@ loaded_stands t z h actor e page offset store ends u st l two answer is =
       routes = λ s below. st.routes s below ∙ ap Some (omega arith);
       ends = λ j below. ap (λ (es : List EndRecord). slice_get es j) is
           ∙ set_gives t.ends e (ends_per_processor * z.board.limits.processors) (after_load (end_in t.ends e) page offset)
-          (end_of z h) (end_of z (x ∷ h)) st.ends
+          (record_of z h) (record_of z (x ∷ h)) st.ends
           (subst (λ (b : Board). e < ends_per_processor * b.limits.processors) st.board l)
-          (ap (λ (k : EndRecord). with_state k page new) (kept_end t z h e st l) ∙ sym (after z h e e actor page offset q new store two ∙ at_same e (with_state (end_of z h e) page new) (end_of z h e)))
-          (λ j other. after z h e j actor page offset q new store two ∙ at_other e j (with_state (end_of z h j) page new) (end_of z h j) other) j below;
+          (ap (λ (k : EndRecord). with_state k page new) (kept_end t z h e st l) ∙ sym (after z h e e actor page offset q new store two ∙ at_same e (with_state (record_of z h e) page new) (record_of z h e)))
+          (λ j other. after z h e j actor page offset q new store two ∙ at_other e j (with_state (record_of z h j) page new) (record_of z h j) other) j below;
       messages = st.messages ∙ sym (append-nil (flight z h));
     })
 

@@ -15,7 +15,7 @@ use Rattle.xv_model.specs.end.Written.{written, written_count, wrote_in}
 use Rattle.xv_model.specs.end.Reading.{taken}
 use Rattle.end_queue.specs.declared.ends.EndRecord.{EndRecord}
 use Rattle.end_queue.specs.Ends.{with_ese}
-use Rattle.router.specs.Tables.{end_of}
+use Rattle.end_queue.specs.Accounts.{record_of}
 
 -- how many entries a pass of e writes for j
 entered_by : (e j payload : ℕ) (w : Wrote) (next : Then) (q : Bool) →
@@ -69,7 +69,7 @@ end_ran z h j same more state = record {
 pub ran : (z : Start) (h : List Entry) (e j payload state : ℕ) (w : Wrote) (next : Then) (q : Bool) →
     end_ran z h j (e == j) (option_map_or (λ end. if end == j then payload ∷ [] else [])
     (wrote_in (Some (Ran e (if q then Some w else None) next))) []) state
-    ≡ with_ese state (if e == j then counted_in z h j true (count_by z h j q) (taken h j) else end_of z h j)
+    ≡ with_ese state (if e == j then counted_in z h j true (count_by z h j q) (taken h j) else record_of z h j)
 ran z h e j payload state w next q =
     ap (λ n. with_ese state (counted_in z h j (e == j) n (taken h j ++ [])))
     (count_after (written z h j) _ (until_config (z.written_count j) h j) (e == j) q
@@ -79,6 +79,6 @@ ran z h e j payload state w next q =
   where
     by : (same : Bool) →
         with_ese state (counted_in z h j same (if same then count_by z h j q else written_count z h j) (taken h j))
-        ≡ with_ese state (if same then counted_in z h j true (count_by z h j q) (taken h j) else end_of z h j)
+        ≡ with_ese state (if same then counted_in z h j true (count_by z h j q) (taken h j) else record_of z h j)
     by true = refl
     by false = refl

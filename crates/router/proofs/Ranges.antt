@@ -5,26 +5,16 @@ use Rattle.std.proofs.lemmas.Bool.Decides.{nat_tests}
 use Rattle.std.proofs.lemmas.List.Elements.{All-set, All-get_or}
 use Rattle.xv_model.specs.declared.eas.Eas.{Eas}
 use Rattle.xv_model.specs.declared.board.Board.{Board}
-use Rattle.xv_model.specs.declared.operations.EndConfig.{EndConfig}
 use Rattle.xv_model.specs.declared.outcomes.Outcome.{Outcome}
 use Rattle.xv_model.specs.end.Flags.{is_valid, enqueues}
 use Rattle.xv_model.specs.source.PqTable.{trigger_row}
 use Rattle.xv_model.specs.end.EventStates.{asks_state}
-use Rattle.xv_model.specs.board.Validity.{valid_config}
 use Rattle.end_queue.specs.declared.ends.EndRecord.{EndRecord}
-use Rattle.end_queue.specs.Ends.{first_end, end_in, configured, with_ese, HasCountsAtMost, HasRoom}
+use Rattle.end_queue.specs.Ends.{first_end, end_in, with_ese, HasCountsAtMost, HasRoom}
 use Rattle.end_queue.specs.Queues.{one_taken, is_item, after_read}
-use Rattle.router.specs.Ends.{IsEnd}
+use Rattle.end_queue.specs.Accounts.{IsEnd}
 use Rattle.router.specs.Passes.{enqueued, notified, after_pass}
 use Rattle.router.specs.Routing.{reaches_end, ends_after}
-
-small_first : (valid : Bool) → (if valid then 0 else 1) < 4
-small_first true = omega arith
-small_first false = omega arith
-
--- an END that is told a valid configuration
-pub configured_in_range : (b : Board) (c : EndConfig) → valid_config b c ≡ true → IsEnd b (configured c)
-configured_in_range b c v = record { config = v; esn = small_first (is_valid c); ese = small_first (is_valid c) }
 
 small_row : (q : ℕ) → (trigger_row q).pair < 4
 small_row q = grind (arith, nat_tests)

@@ -21,10 +21,11 @@ use Rattle.guest_ram.specs.Ram.{StandsFor as MemoryStandsFor}
 use Rattle.end_queue.specs.declared.ends.EndRecord.{EndRecord}
 use Rattle.end_queue.specs.Ends.{end_in, has_queue, HasPage}
 use Rattle.end_queue.specs.Queues.{one_taken, after_read, read_in}
-use Rattle.router.specs.Tables.{Kept, StandsFor, end_of}
-use Rattle.router.proofs.Configured.{at_same, at_other}
-use Rattle.router.proofs.Elements.{set_gives}
-use Rattle.router.proofs.Keeping.{end_by, nothing_entered, nothing_keeps}
+use Rattle.router.specs.Tables.{Kept, StandsFor}
+use Rattle.end_queue.specs.Accounts.{record_of}
+use Rattle.xv_model.proofs.Elements.{at_same, at_other, set_gives}
+use Rattle.router.proofs.Keeping.{nothing_keeps}
+use Rattle.end_queue.proofs.Entering.{record_by, nothing_entered}
 use Rattle.router.proofs.Loaded.{kept_end}
 
 -- a read of e
@@ -35,11 +36,11 @@ reading actor e u = record { actor = actor; op = op.Read e; outcome = u }
 
 -- an END from which this was taken, by whether the read was of it
 took : (z : Start) (h : List Entry) (j payload : ℕ) (here : Bool) →
-    end_by z h j (written z h j ++ []) (taken h j ++ (if here then payload ∷ [] else [])) ≡ (if here then one_taken (end_of z h j) else end_of z h j)
+    record_by z h j (written z h j ++ []) (taken h j ++ (if here then payload ∷ [] else [])) ≡ (if here then one_taken (record_of z h j) else record_of z h j)
 took z h j payload true = λ i. by (append-nil (written z h j) i) (more i)
   where
     by : List ℕ → ℕ → EndRecord
-    by ws n = let r = end_by z h j ws [] in record { config = r.config; written = r.written; taken = n; esn = r.esn; ese = r.ese }
+    by ws n = let r = record_by z h j ws [] in record { config = r.config; written = r.written; taken = n; esn = r.esn; ese = r.ese }
 
     more : length (taken h j ++ payload ∷ []) + until_config (z.taken_count j) h j ≡ taken_count z h j + 1
     more = omega (arith, length-append (taken h j) (payload ∷ []))
@@ -54,17 +55,17 @@ item_stands t z h actor e payload st l = record {
   eases = st.eases;
   routes = λ s below. st.routes s below ∙ ap Some (omega arith);
   ends = set_gives t.ends e (ends_per_processor * z.board.limits.processors) (one_taken (end_in t.ends e))
-      (end_of z h) (end_of z (reading actor e (out.Item payload) ∷ h)) st.ends
+      (record_of z h) (record_of z (reading actor e (out.Item payload) ∷ h)) st.ends
       (subst (λ (b : Board). e < ends_per_processor * b.limits.processors) st.board l)
-      (ap one_taken (kept_end t z h e st l) ∙ sym (took z h e payload (e == e) ∙ at_same e (one_taken (end_of z h e)) (end_of z h e)))
-      (λ j other. took z h j payload (e == j) ∙ at_other e j (one_taken (end_of z h j)) (end_of z h j) other);
+      (ap one_taken (kept_end t z h e st l) ∙ sym (took z h e payload (e == e) ∙ at_same e (one_taken (record_of z h e)) (record_of z h e)))
+      (λ j other. took z h j payload (e == j) ∙ at_other e j (one_taken (record_of z h j)) (record_of z h j) other);
   messages = st.messages ∙ sym (append-nil (flight z h));
 }
 
 -- a read that answered none
 none_stands : (t : Kept) (z : Start) (h : List Entry) (actor e : ℕ) (u : Outcome) → ((j : ℕ) → item_in (op.Read e) u j ≡ []) → StandsFor t z h → StandsFor t z (reading actor e u ∷ h)
 none_stands t z h actor e u none st = nothing_keeps t z h (reading actor e u) (λ s. refl) (λ s. omega arith)
-    (λ j. ap (λ ts. end_by z h j (written z h j ++ []) (taken h j ++ ts)) (none j) ∙ nothing_entered z h j) (append-nil (flight z h)) st
+    (λ j. ap (λ ts. record_by z h j (written z h j ++ []) (taken h j ++ ts)) (none j) ∙ nothing_entered z h j) (append-nil (flight z h)) st
 
 pub read_stands : (t : Kept) (z : Start) (h : List Entry) (actor e : ℕ) (u : Outcome) (ends : List EndRecord) → StandsFor t z h → e < ends_per_processor * t.board.limits.processors →
     ends ≡ after_read t.ends e u → StandsFor (record { board = t.board; eases = t.eases; routes = t.routes; ends = ends; messages = t.messages }) z (reading actor e u ∷ h)

@@ -21,7 +21,7 @@ use Rattle.xv_model.specs.route.Flight.{messages_by}
 use Rattle.xv_model.specs.route.Routing.{next_by, write_by}
 use Rattle.end_queue.specs.declared.ends.EndRecord.{EndRecord}
 use Rattle.end_queue.specs.Ends.{first_end, end_in}
-use Rattle.router.specs.Ends.{IsEnd}
+use Rattle.end_queue.specs.Accounts.{IsEnd}
 use Rattle.router.specs.Messages.{IsEscalation, IsMessage, IsTarget}
 use Rattle.router.specs.Passes.{pass_by, made_for}
 use Rattle.router.specs.Routing.{reaches_end, messages_after}

@@ -17,8 +17,9 @@ use Rattle.xv_model.specs.end.Written.{written}
 use Rattle.xv_model.specs.end.Reading.{taken}
 use Rattle.xv_model.specs.route.Flight.{escalation_of, flight}
 use Rattle.end_queue.specs.Ends.{with_ese}
-use Rattle.router.specs.Tables.{Kept, StandsFor, end_of}
-use Rattle.router.proofs.Keeping.{end_by, nothing_entered}
+use Rattle.router.specs.Tables.{Kept, StandsFor}
+use Rattle.end_queue.specs.Accounts.{record_of}
+use Rattle.end_queue.proofs.Entering.{record_by, nothing_entered}
 
 -- the tables with these messages in flight
 abbrev pub with_messages : Kept → List Message → Kept
@@ -44,9 +45,9 @@ asked z h j m = if option_map_or (λ end. end == j) (asked_end m) false then (tr
 
 -- a presentation leaves the ENDs
 presented_leaves : (z : Start) (h : List Entry) (actor i vp priority : ℕ) (presented : Presented) (escalates : Bool) (e v p esc esc_eisn origin : ℕ) (flags : EndFlags) →
-    slice_get (flight z h) i ≡ Some (message.Present e flags v p esc esc_eisn origin) → (j : ℕ) → end_of z (presenting actor i vp priority presented escalates ∷ h) j ≡ end_of z h j
+    slice_get (flight z h) i ≡ Some (message.Present e flags v p esc esc_eisn origin) → (j : ℕ) → record_of z (presenting actor i vp priority presented escalates ∷ h) j ≡ record_of z h j
 presented_leaves z h actor i vp priority presented escalates e v p esc esc_eisn origin flags is j =
-    ap (λ (m : Option Message). with_ese (asked z h j m) (end_by z h j (written z h j ++ []) (taken h j ++ []))) is ∙ nothing_entered z h j
+    ap (λ (m : Option Message). with_ese (asked z h j m) (record_by z h j (written z h j ++ []) (taken h j ++ []))) is ∙ nothing_entered z h j
 
 -- the messages become those but message i, which was a presentation, and the escalation that it goes on as
 pub taken_stands : (t : Kept) (z : Start) (h : List Entry) (actor i vp priority : ℕ) (presented : Presented) (escalates : Bool) (e v p esc esc_eisn origin : ℕ) (flags : EndFlags) (messages : List Message) →

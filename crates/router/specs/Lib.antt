@@ -1,6 +1,4 @@
 -- What the router keeps, and which account that represents.
-pub mod Configuring
-pub mod Ends
 pub mod Messages
 pub mod Pages
 pub mod Passes

@@ -65,8 +65,8 @@ impl Tables {
             return Outcome::BusFull;
         }
         self.routes[s as usize] = k + 1;
-        let eas = &self.eases[s as usize];
-        let routed = route_by_eas(&mut self.ends, ram, &mut self.messages, s, eas);
+        let eas = self.eas.get(s);
+        let routed = route_by_eas(&mut self.ends, ram, &mut self.messages, s, &eas);
         Outcome::Routed { k: k + 1, routed }
     }
 }

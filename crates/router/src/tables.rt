@@ -1,21 +1,21 @@
 //! The tables of the router.
 
-ghost use Rattle.std.specs.Prelude.{◌≡◌, ◌<◌, ◌≤◌, ◌*◌, List, [], Some, All, IfOk, IfSome};
-ghost use Rattle.std.specs.Prelude.{length, slice_get, vec_len};
+ghost use Rattle.std.specs.Prelude.{◌≡◌, ◌<◌, ◌≤◌, ◌*◌, List, [], All, IfOk, IfSome, length, slice_get};
 ghost use Rattle.xv_base.specs.Limits.{ends_per_processor, most_messages};
 ghost use Rattle.xv_model.specs.declared.entries.Entry.{Entry};
 ghost use Rattle.xv_model.specs.board.Boards.{IsBoard};
-ghost use Rattle.xv_model.specs.account.Start.{Start, start, first_eas as first_eas_of};
+ghost use Rattle.xv_model.specs.account.Start.{Start, start};
 ghost use Rattle.xv_model.specs.source.Notices.{routes as routes_of};
 ghost use Rattle.xv_model.specs.source.Eas.{initialised as is_initialised};
 ghost use Rattle.end_queue.specs.Ends.{HasCountsAtMost};
 ghost use Rattle.std.specs.VecDeque.{deque_len};
 ghost use Rattle.xv_model.specs.route.Flight.{flight};
 ghost use Rattle.xv_model.specs.route.Quiet.{messages_of};
-ghost use Rattle.router.specs.Ends.{IsEnd};
+ghost use Rattle.end_queue.specs.Accounts.{IsEnd};
 ghost use Rattle.router.specs.Messages.{IsMessage};
-ghost use Rattle.router.specs.Tables.{AreFirst, StandsFor};
+ghost use Rattle.router.specs.Tables.{StandsFor};
 
+use eas_table::EasTable;
 use end_queue::Ends;
 use std::alloc::Global;
 use std::collections::VecDeque;
@@ -23,17 +23,16 @@ use std::marker::Model;
 use xv_base::NoMemory;
 use xv_base::limits::MOST_MESSAGES;
 use xv_model::board::Board;
-use xv_model::eas::Eas;
 use xv_model::messages::Message;
 
 /// The tables of a board: an EAS and a count of routes for each source, the ENDs, and the messages in
-/// flight.
+/// flight. Who changes the EASes and the ENDs keeps them those of the board.
 #[derive(Drop)]
 pub struct Tables {
-    pub(crate) board: Board,
-    pub(crate) eases: Vec<Eas>,
+    pub board: Board,
+    pub eas: EasTable,
     pub(crate) routes: Vec<u64>,
-    pub(crate) ends: Ends,
+    pub ends: Ends,
     pub(crate) messages: VecDeque<Message>,
 }
 
@@ -42,54 +41,27 @@ impl Model for Tables {
     ghost use Rattle.std.specs.VecDeque.{deque_len, deque_capacity};
     ghost use Rattle.xv_base.specs.Limits.{ends_per_processor, most_messages};
     ghost use Rattle.xv_model.specs.board.Boards.{IsBoard};
-    ghost use Rattle.router.specs.Ends.{IsEnd};
+    ghost use Rattle.eas_table.specs.Table.{IsEas};
+    ghost use Rattle.end_queue.specs.Accounts.{IsEnd};
     ghost use Rattle.router.specs.Messages.{IsMessage};
-    ghost use Rattle.router.specs.Tables.{Kept, IsEas};
+    ghost use Rattle.router.specs.Tables.{Kept};
 
     ghost Value = { Kept };
 
     ghost view = { λ t. record {
       board = t.board;
-      eases = t.eases.items;
+      eases = t.eas;
       routes = t.routes.items;
       ends = t.ends;
       messages = t.messages.items;
     } };
 
     ghost invariant = { λ t. IsBoard t.board
-        × (vec_len t.eases ≡ t.board.limits.sources) × (vec_len t.routes ≡ t.board.limits.sources)
+        × (length t.eas ≡ t.board.limits.sources) × (vec_len t.routes ≡ t.board.limits.sources)
         × (length t.ends ≡ ends_per_processor * t.board.limits.processors)
-        × All (IsEas t.board) t.eases.items × All (IsEnd t.board) t.ends
+        × All (IsEas t.board) t.eas × All (IsEnd t.board) t.ends
         × (deque_len t.messages ≤ most_messages) × (most_messages ≤ deque_capacity t.messages)
         × All (IsMessage t.board) t.messages.items };
-}
-
-/// The EAS that a source starts with: one that is claimed is valid and masked (QEMU's
-/// hw/intc/spapr_xive.c, spapr_xive_reset).
-fn first_eas(board: &Board, s: u32) -> Eas
-    requires board { IsBoard board.now }
-    ensures { result ≡ first_eas_of board.now s }
-{
-    let claimed = !board.unclaimed.has(s);
-    Eas {
-        valid: claimed,
-        masked: claimed,
-        end: 0,
-        eisn: 0,
-    }
-}
-
-/// The EASes that the sources of a board start with.
-fn first_eases(alloc: Global, board: &Board) -> Result<Vec<Eas>, NoMemory>
-    requires board { IsBoard board.now }
-    ensures len { IfOk result (λ v. vec_len v ≡ board.now.limits.sources) }
-    ensures items { IfOk result (λ v. AreFirst board.now v.items) }
-{
-    let mut eases = Vec::with_capacity(alloc, board.limits.sources as usize)?;
-    for s in 0..board.limits.sources {
-        eases.push(first_eas(board, s))?;
-    }
-    Ok(eases)
 }
 
 /// How many of some messages come from a source.
@@ -116,13 +88,13 @@ impl Tables {
         ensures stands { IfOk result (λ t. StandsFor t (start board.now) []) }
         ensures counts { IfOk result (λ t. All (HasCountsAtMost 0) t.ends) }
     {
-        let eases = first_eases(alloc, board)?;
+        let eas = EasTable::build(alloc, board)?;
         let routes = vec![in alloc; 0; board.limits.sources as usize]?;
         let ends = Ends::build(alloc, board)?;
         let messages = VecDeque::with_capacity(alloc, MOST_MESSAGES)?;
         Ok(Tables {
             board: *board,
-            eases,
+            eas,
             routes,
             ends,
             messages,
@@ -152,7 +124,7 @@ impl Tables {
         ensures value { (z : Start) (h : List Entry)
             → StandsFor self.now z h → result ≡ is_initialised z h s }
     {
-        self.eases[s as usize].valid
+        self.eas.get(s).valid
     }
 
     /// The ENDs. Their counts show whether each has room, as a route needs it.

@@ -1,6 +1,5 @@
 //! What the tests share: boards, and the tables of a board beside its memory.
 
-mod configuring;
 mod escalating;
 mod pages;
 mod presenting;
@@ -15,7 +14,6 @@ ghost use Rattle.end_queue.specs.Ends.{HasRoom};
 use crate::tables::Tables;
 use bitflags::Flags;
 use guest_ram::Ram;
-use nvt_backlog::Vps;
 use std::alloc::Global;
 use std::process::Abort;
 use xv_base::Limits;
@@ -23,6 +21,7 @@ use xv_base::limits::{
     ENDS_PER_PROCESSOR, MOST_ACTORS, MOST_PROCESSORS, MOST_RAM_MIB, MOST_SOURCES, MOST_THREADS,
 };
 use xv_model::board::{Board, Span, Spans};
+use xv_model::eas::Eas;
 use xv_model::messages::Message;
 use xv_model::operations::{EndConfig, EndFlags, Op};
 use xv_model::outcomes::{EndRun, Outcome, Presented, Routed, Then};
@@ -139,13 +138,12 @@ fn is_memory_of(board: &Board, ram: &Ram) -> bool
     ram.fits(size, 0) && !ram.fits(size, 4)
 }
 
-/// The tables of a board, beside its memory and its processors. Each call asks first what the tables need to
+/// The tables of a board, beside its memory. Each call asks first what the tables need to
 /// be told.
 #[derive(Drop)]
 pub struct Bench {
     pub tables: Tables,
     pub ram: Ram,
-    pub vps: Vps,
 }
 
 impl Bench {
@@ -160,23 +158,21 @@ impl Bench {
             Ok(ram) => ram,
             Err(_) => panic!(rt),
         };
-        let vps = match Vps::build(alloc, board) {
-            Ok(vps) => vps,
-            Err(_) => panic!(rt),
+        Bench { tables, ram }
+    }
+
+    /// Routes the notices of a source to an END, with this payload.
+    pub fn assign(&mut self, rt: &impl Abort, s: u32, end: u32, eisn: u32) {
+        assert!(rt; s < self.tables.board.limits.sources);
+        assert!(rt; end < ENDS_PER_PROCESSOR * self.tables.board.limits.processors);
+        assert!(rt; eisn < 1 << 31);
+        let eas = Eas {
+            valid: true,
+            masked: false,
+            end,
+            eisn,
         };
-        Bench { tables, ram, vps }
-    }
-
-    /// The code of H_INT_SET_SOURCE_CONFIG.
-    pub fn set_source_config(&mut self, rt: &impl Abort, args: &[u64; 5]) -> i64 {
-        assert!(rt; self.vps.count() == self.tables.board().limits.processors);
-        self.tables.set_source_config(args, &self.vps).code
-    }
-
-    /// Connects a processor.
-    pub fn connect(&mut self, rt: &impl Abort, v: u32) {
-        assert!(rt; v < self.vps.count());
-        assert_eq!(rt; self.vps.connect(v), 0);
+        self.tables.eas.set(s, eas);
     }
 
     pub fn configure(&mut self, rt: &impl Abort, e: u32, config: &EndConfig) {
@@ -226,7 +222,7 @@ impl Bench {
     /// Sends one more message by END 0, with this priority and these flags.
     pub fn send(&mut self, rt: &impl Abort, number: u64, priority: u8, flags: u8) {
         self.configure(rt, 0, &sender(priority, flags));
-        assert_eq!(rt; self.set_source_config(rt, &[0, 0, 0, 0, 0]), 0);
+        self.assign(rt, 0, 0, 0);
         assert!(rt; matches!(self.routed(rt, number), Routed::Run { run: _ }));
     }
 

@@ -21,7 +21,7 @@ fn loaded(outcome: Outcome, from: u8, to: u8) -> bool {
 #[test]
 fn pages_of_an_end(rt: HostRuntime) {
     let bench = &mut Bench::build(&rt, rt.alloc(), &small_board());
-    assert_eq!(rt; bench.set_source_config(&rt, &[2, 0, 0, 6, 5]), 0);
+    bench.assign(&rt, 0, 6, 5);
     assert!(rt; matches!(load(&rt, bench, 0, 0), Outcome::NoEnd));
     bench.configure(&rt, 6, &config(3));
     assert!(rt; bench.passed(&rt, 1).1);

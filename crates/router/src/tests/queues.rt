@@ -27,7 +27,7 @@ fn zero_page(rt: &impl Abort, bench: &mut Bench) {
 fn words_of_routes(rt: HostRuntime) {
     let bench = &mut Bench::build(&rt, rt.alloc(), &small_board());
     assert!(rt; matches!(bench.routed(&rt, 1), Routed::Masked));
-    assert_eq!(rt; bench.set_source_config(&rt, &[2, 0, 0, 6, 7]), 0);
+    bench.assign(&rt, 0, 6, 7);
     assert!(rt;
         matches!(
             bench.routed(&rt, 2),
@@ -50,7 +50,7 @@ fn words_of_routes(rt: HostRuntime) {
 #[test]
 fn queue_that_wraps_twice(rt: HostRuntime) {
     let bench = &mut Bench::build(&rt, rt.alloc(), &small_board());
-    assert_eq!(rt; bench.set_source_config(&rt, &[2, 0, 0, 6, 5]), 0);
+    bench.assign(&rt, 0, 6, 5);
     bench.configure(&rt, 6, &config(3));
     for number in 1..=2049 {
         let (wrote, _) = bench.passed(&rt, number);
@@ -82,9 +82,9 @@ fn reads_of_routes(rt: HostRuntime) {
     assert!(rt; matches!(bench.read(&rt, 6), Outcome::NoQueue));
     bench.configure(&rt, 6, &config(3));
     assert_eq!(rt; bench.item(&rt), None);
-    assert_eq!(rt; bench.set_source_config(&rt, &[2, 0, 0, 6, 7]), 0);
+    bench.assign(&rt, 0, 6, 7);
     assert_eq!(rt; bench.passed(&rt, 1), (Some((0x4000, 0x8000_0007)), true));
-    assert_eq!(rt; bench.set_source_config(&rt, &[2, 0, 0, 6, 8]), 0);
+    bench.assign(&rt, 0, 6, 8);
     assert_eq!(rt; bench.passed(&rt, 2), (Some((0x4004, 0x8000_0008)), false));
     assert!(rt; matches!(bench.read(&rt, 5), Outcome::NoQueue));
     assert_eq!(rt; bench.item(&rt), Some(7));
@@ -99,7 +99,7 @@ fn reads_of_a_queue_that_was_configured_anew(rt: HostRuntime) {
     let bench = &mut Bench::build(&rt, rt.alloc(), &small_board());
     bench.configure(&rt, 6, &config(3));
     for number in 1..=2 {
-        assert_eq!(rt; bench.set_source_config(&rt, &[2, 0, 0, 6, number]), 0);
+        bench.assign(&rt, 0, 6, number as u32);
         assert!(rt; matches!(bench.routed(&rt, number), Routed::Run { run: _ }));
     }
     assert_eq!(rt; bench.item(&rt), Some(1));

@@ -26,7 +26,7 @@ fn outcomes_of_a_route(rt: HostRuntime) {
             }
         )
     );
-    assert_eq!(rt; bench.set_source_config(&rt, &[2, 0, 0, 6, 7]), 0);
+    bench.assign(&rt, 0, 6, 7);
     assert!(rt;
         matches!(
             bench.routed(&rt, 2),
@@ -68,15 +68,8 @@ fn largest_counts(rt: HostRuntime) {
         ..config(3)
     };
     bench.configure(&rt, 510, &queue_of_16_mib);
-    // Priority 7 is reserved, so END 510 is the last one that a source can have.
-    assert_eq!(rt; bench.set_source_config(&rt, &[2, 8191, 63, 7, 0]), -57);
     bench.configure(&rt, 511, &config(1));
-    assert_eq!(rt;
-        bench.set_source_config(&rt, &[2, 8191, 63, 6, 0x7fff_ffff]),
-        0
-    );
-    assert_eq!(rt; bench.set_source_config(&rt, &[2, 8190, 63, 6, 0]), -55);
-    assert_eq!(rt; bench.set_source_config(&rt, &[2, 8191, 62, 6, 0]), -56);
+    bench.assign(&rt, 8191, 510, 0x7fff_ffff);
     assert!(rt;
         matches!(
             bench.route(&rt, 8191, 1),
@@ -112,7 +105,7 @@ fn largest_counts(rt: HostRuntime) {
 #[test]
 fn full_bus(rt: HostRuntime) {
     let bench = &mut Bench::build(&rt, rt.alloc(), &small_board());
-    assert_eq!(rt; bench.set_source_config(&rt, &[0, 0, 0, 6, 0]), 0);
+    bench.assign(&rt, 0, 6, 0);
     bench.configure(&rt, 6, &config(7));
     for number in 1..=4096 {
         assert!(rt; matches!(bench.routed(&rt, number), Routed::Run { run: _ }));

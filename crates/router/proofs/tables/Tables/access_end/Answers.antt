@@ -5,7 +5,7 @@ use Rattle.xv_base.specs.Limits.{ends_per_processor}
 use Rattle.xv_model.specs.end.Flags.{is_valid}
 use Rattle.end_queue.specs.declared.ends.EndRecord.{EndRecord}
 use Rattle.end_queue.specs.Ends.{first_end, end_in, HasCountsAtMost}
-use Rattle.router.specs.Ends.{IsEnd}
+use Rattle.end_queue.specs.Accounts.{IsEnd}
 use Rattle.router.specs.Pages.{after_load}
 use Rattle.router.specs.Tables.{Kept, StandsFor}
 use Rattle.router.proofs.Loaded.{load_answer, loaded_stands, loaded_in_range, loaded_counted}

@@ -5,11 +5,11 @@ use Rattle.xv_base.specs.Limits.{ends_per_processor}
 use Rattle.xv_model.specs.board.Validity.{valid_config}
 use Rattle.end_queue.specs.declared.ends.EndRecord.{EndRecord}
 use Rattle.end_queue.specs.Ends.{configured, HasCountsAtMost}
-use Rattle.router.specs.Ends.{IsEnd}
+use Rattle.end_queue.specs.Accounts.{IsEnd}
 use Rattle.router.specs.Tables.{Kept, StandsFor}
 use Rattle.router.proofs.Configured.{configured_stands}
-use Rattle.router.proofs.Queues.{narrow}
-use Rattle.router.proofs.Ranges.{configured_in_range}
+use Rattle.end_queue.proofs.Placing.{narrow}
+use Rattle.end_queue.proofs.Ranges.{configured_in_range}
 use Rattle.router.proofs.tables.Tables.configure.Goals as goal
 
 pub configure-requires-clause-narrow : goal.configure-requires-clause-narrow

@@ -11,13 +11,13 @@ use Rattle.xv_model.specs.source.PqTable.{trigger_row}
 use Rattle.xv_model.specs.route.Taking.{escalates_on}
 use Rattle.end_queue.specs.declared.ends.EndRecord.{EndRecord}
 use Rattle.end_queue.specs.Ends.{HasCountsAtMost, HasRoom, end_in}
-use Rattle.router.specs.Ends.{IsEnd}
+use Rattle.end_queue.specs.Accounts.{IsEnd}
 use Rattle.router.specs.Messages.{IsMessage}
 use Rattle.router.specs.Passes.{made_for}
 use Rattle.router.specs.Tables.{Kept, StandsFor}
 use Rattle.router.proofs.Escalated.{AnswersOf, StandsAfter, CoalescesWhen, asked_of, asked_gives, coalesced_stands, escalated_stands, coalesced_answer, escalated_answer, coalesced_when, goes_on_when}
 use Rattle.router.proofs.Memory.{escalated_memory}
-use Rattle.router.proofs.Queues.{page_inside}
+use Rattle.end_queue.proofs.Placing.{page_inside}
 use Rattle.router.proofs.Ranges.{asked_in_range, asked_counted, asked_roomy, one_roomy, one_in_range, passed_in_range, passed_counted, one_more_in_all}
 use Rattle.router.proofs.Sent.{taken_is, rest_in_range, ran_in_range}
 use Rattle.router.proofs.tables.Tables.end_escalate.Goals as goal

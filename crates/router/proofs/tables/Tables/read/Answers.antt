@@ -5,9 +5,9 @@ use Rattle.xv_base.specs.Limits.{ends_per_processor}
 use Rattle.xv_model.specs.board.Validity.{ram_size}
 use Rattle.end_queue.specs.declared.ends.EndRecord.{EndRecord}
 use Rattle.end_queue.specs.Ends.{first_end, end_in, has_queue, HasCountsAtMost, HasPage}
-use Rattle.router.specs.Ends.{IsEnd}
+use Rattle.end_queue.specs.Accounts.{IsEnd}
 use Rattle.router.specs.Tables.{Kept, StandsFor}
-use Rattle.router.proofs.Queues.{page_inside}
+use Rattle.end_queue.proofs.Placing.{page_inside}
 use Rattle.router.proofs.Ranges.{read_in_range, read_counted, read_len}
 use Rattle.router.proofs.Read.{read_stands, read_answer}
 use Rattle.router.proofs.tables.Tables.read.Goals as goal

@@ -1,6 +1,0 @@
-use Rattle.std.proofs.Common.{◌≡◌, length}
-use Rattle.router.specs.Tables.{AreFirst}
-use Rattle.router.proofs.tables.first_eases.Given as goal
-
-abbrev pub invariant-loop-s : goal.invariant-loop-s
-invariant-loop-s l = (length l.eases.items ≡ l.s) × AreFirst l.board l.eases.items
