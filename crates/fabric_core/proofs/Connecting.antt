@@ -9,7 +9,7 @@ use Rattle.xv_model.specs.declared.entries.Entry.{Entry}
 use Rattle.xv_model.specs.declared.operations.Op.TheVariants.{Connect}
 use Rattle.xv_model.specs.declared.outcomes.Outcome.TheVariants.{Code}
 use Rattle.xv_model.specs.account.Start.{Start}
-use Rattle.xv_model.specs.source.Eas.{is_success}
+use Rattle.xv_model.specs.call.Accepted.{is_success}
 use Rattle.xv_model.specs.processor.Phases.{is_connected, thread_of}
 use Rattle.nvt_backlog.specs.declared.vp.Vp.{Vp}
 use Rattle.nvt_backlog.specs.Vps.{connected, vp_in}

@@ -6,7 +6,7 @@ use Rattle.xv_model.specs.declared.outcomes.HReply.{HReply}
 use Rattle.xv_model.specs.declared.outcomes.MoveRefused.{MoveRefused}
 use Rattle.xv_model.specs.declared.outcomes.Outcome.{Outcome}
 use Rattle.xv_model.specs.declared.outcomes.Outcome.TheVariants.{Code, Fine, Refused, Reply, Value}
-use Rattle.xv_model.specs.source.Eas.{is_success}
+use Rattle.xv_model.specs.call.Accepted.{is_success}
 use Rattle.fabric_core.specs.Processors.{Parts}
 
 fine_refused : (o : Outcome) (why : MoveRefused) → o ≡ Fine → o ≡ Refused why → ⊥

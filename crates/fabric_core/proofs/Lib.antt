@@ -1,5 +1,6 @@
 -- Lemmas.
 pub mod Accessed
+pub mod Called
 pub mod Choices
 pub mod Connecting
 pub mod Kept

@@ -14,7 +14,7 @@ use Rattle.xv_model.specs.declared.outcomes.Presented.{Presented}
 use Rattle.xv_model.specs.declared.tima.RingOp.{RingOp}
 use Rattle.xv_model.specs.declared.tima.RingOp.TheVariants.{Accept, Inject, Push, SetCppr}
 use Rattle.xv_model.specs.account.Start.{Start}
-use Rattle.xv_model.specs.source.Eas.{is_success}
+use Rattle.xv_model.specs.call.Accepted.{is_success}
 use Rattle.xv_model.specs.processor.RingOps.{ring_access, ring_op}
 use Rattle.xv_model.specs.processor.Phases.{connected_in, is_on, move_in, moved_at, moved_by, phase}
 use Rattle.xv_model.specs.processor.Pending.{access_says, ipb_set, is_kept, is_of, presentation_in, ring_says}

@@ -11,7 +11,7 @@ use Rattle.xv_model.specs.declared.outcomes.Outcome.TheVariants as out
 use Rattle.xv_model.specs.account.Start.{Start}
 use Rattle.xv_model.specs.board.Validity.{valid_config}
 use Rattle.xv_model.specs.source.Notices.{forwards}
-use Rattle.xv_model.specs.source.Eas.{is_success}
+use Rattle.xv_model.specs.call.Accepted.{is_success}
 use Rattle.xv_model.specs.end.Descriptors.{end_config}
 use Rattle.xv_model.specs.end.EventStates.{esn, ese}
 use Rattle.xv_model.specs.end.Reading.{taken_count}

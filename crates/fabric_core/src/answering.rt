@@ -18,6 +18,7 @@ ghost use Rattle.end_queue.specs.Ends.{HasRoom, HasCountsAtMost};
 ghost use Rattle.fabric_core.specs.Fabric.{IsCounted, IsRefusal};
 ghost use Rattle.fabric_core.specs.Processors.{StandsFor as ProcessorsStandFor};
 
+use crate::hypercalls::call_tables;
 use crate::memory::{peek, zero};
 use crate::processors::Processors;
 use bitflags::Flags;
@@ -174,8 +175,8 @@ pub(crate) fn answer(
             size,
             access,
         } => access_tima(processors, *t, *page, *offset, *size, *access),
-        Op::Hcall { number: _, args } => Outcome::Reply {
-            reply: tables.set_source_config(args, processors.vps()),
+        Op::Hcall { number, args } => Outcome::Reply {
+            reply: call_tables(tables, ram, processors, *number, args),
         },
         Op::Read { e } => tables.read(ram, *e),
         Op::Peek { addr } => peek(ram, *addr),

@@ -6,6 +6,7 @@
 mod accesses;
 mod answering;
 mod fabric;
+mod hypercalls;
 mod memory;
 mod moves;
 mod presenting;

@@ -1,7 +1,6 @@
 use Rattle.std.proofs.Common.{ℕ, ◌≡◌, nat_lt, true, List, ◌∷◌, refl, sym, ◌∙◌, ap, subst, inl, inr}
-use Rattle.std.proofs.lemmas.Bool.{and_parts, eqb-true}
+use Rattle.std.proofs.lemmas.Bool.{and_parts}
 use Rattle.xv_model.specs.declared.entries.Entry.{Entry}
-use Rattle.xv_model.specs.declared.hypercalls.TheConstants.{H_INT_SET_SOURCE_CONFIG}
 use Rattle.xv_model.specs.declared.operations.Op.{Op}
 use Rattle.xv_model.specs.declared.operations.Op.TheVariants as op
 use Rattle.xv_model.specs.declared.outcomes.Outcome.{Outcome}
@@ -77,13 +76,9 @@ pub returns-in-Read-clause-tables : goal.returns-in-Read-clause-tables
 returns-in-Read-clause-tables c = λ z h actor st ps counted.
     tables_of _ z h actor _ _ _ c.in-Read.is (c.read.ensures.stands z h actor st)
 
--- the hypercall that is valid
-called : (c : goal.After-set_source_config) → c.args.op.now ≡ op.Hcall H_INT_SET_SOURCE_CONFIG c.in-Hcall.args
-called c = c.in-Hcall.is ∙ ap (λ n. op.Hcall n c.in-Hcall.args) (eqb-true c.in-Hcall.number H_INT_SET_SOURCE_CONFIG (subst (λ p. valid c.args.tables.now.board p ≡ true) c.in-Hcall.is c.requires.op))
-
 pub returns-in-Hcall-clause-tables : goal.returns-in-Hcall-clause-tables
 returns-in-Hcall-clause-tables c = λ z h actor st ps counted.
-    tables_of _ z h actor _ _ _ (called c) (c.set_source_config.ensures.stands z h actor st)
+    tables_of _ z h actor _ _ _ c.in-Hcall.is (c.call_tables.ensures.tables z h actor st)
 
 pub returns-in-EndEsb-clause-counts : goal.returns-in-EndEsb-clause-counts
 returns-in-EndEsb-clause-counts c = λ n all. one_more_in_all n c.access_end.new.self.ends (c.access_end.ensures.counts n all)
@@ -92,7 +87,7 @@ pub returns-in-EndSet-clause-counts : goal.returns-in-EndSet-clause-counts
 returns-in-EndSet-clause-counts c = λ n all. one_more_in_all n c.configure.new.self.ends (c.configure.ensures.counts n all)
 
 pub returns-in-Hcall-clause-counts : goal.returns-in-Hcall-clause-counts
-returns-in-Hcall-clause-counts c = λ n all. one_more_in_all n c.set_source_config.new.self.ends (c.set_source_config.ensures.counts n all)
+returns-in-Hcall-clause-counts c = λ n all. one_more_in_all n c.call_tables.new.tables.ends (c.call_tables.ensures.counts n all)
 
 pub returns-in-Take-clause-processors : goal.returns-in-Take-clause-processors
 returns-in-Take-clause-processors c = λ z h actor ps.
@@ -119,6 +114,9 @@ returns-in-Connect-clause-outcome c = λ z h st ms ps counted. c.connect.ensures
 
 pub returns-in-Tima-clause-outcome : goal.returns-in-Tima-clause-outcome
 returns-in-Tima-clause-outcome c = λ z h st ms ps counted. c.access_tima.ensures.outcome z h ps ∙ ap (legal z h) (sym c.in-Tima.is)
+
+pub returns-in-Hcall-clause-outcome : goal.returns-in-Hcall-clause-outcome
+returns-in-Hcall-clause-outcome c = λ z h st ms ps counted. ap out.Reply (c.call_tables.ensures.reply z h st ps) ∙ ap (legal z h) (sym c.in-Hcall.is)
 
 pub returns-in-Zero-clause-outcome : goal.returns-in-Zero-clause-outcome
 returns-in-Zero-clause-outcome c = λ z h st ms ps counted. c.zero.ensures.outcome z h ms ∙ ap (legal z h) (sym c.in-Zero.is)
@@ -175,8 +173,8 @@ returns-in-Tima-clause-refused c = λ r.
 
 pub returns-in-Hcall-clause-refused : goal.returns-in-Hcall-clause-refused
 returns-in-Hcall-clause-refused c = λ r.
-    let u = subst (λ (p : Op). IsRefusal p (out.Reply c.set_source_config.result)) c.in-Hcall.is r in
-    (c.set_source_config.ensures.refused (reply_fails c.set_source_config.result u.0 u.1 u.2), refl, refl)
+    let u = subst (λ (p : Op). IsRefusal p (out.Reply c.call_tables.result)) c.in-Hcall.is r in
+    (c.call_tables.ensures.refused (reply_fails c.call_tables.result u.0 u.1 u.2), refl, refl)
 
 pub returns-in-Read-clause-refused : goal.returns-in-Read-clause-refused
 returns-in-Read-clause-refused c = λ r. (c.read.ensures.refused (subst (λ (p : Op). IsRefusal p c.read.result) c.in-Read.is r), refl, refl)
