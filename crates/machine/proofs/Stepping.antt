@@ -19,7 +19,7 @@ use Rattle.xv_model.specs.route.Routing.{route_outcome}
 use Rattle.xv_model.proofs.HalvesLemmas.{pq-skips, asserted-skips, forwards-skips}
 use Rattle.esb_pq.specs.Word.{SourceParts}
 use Rattle.esb_pq.specs.Applied.{cell_at}
-use Rattle.router.proofs.Elements.{read}
+use Rattle.xv_model.proofs.Elements.{read}
 use Rattle.fabric_core.specs.Fabric.{Held as FabricHeld, StandsFor as FabricStandsFor}
 use Rattle.machine.specs.Answering.{forwarded_in, consumed_in, forwards_in, forwards_for}
 use Rattle.machine.specs.Machine.{Held, AreParts, StandsFor, word_of}

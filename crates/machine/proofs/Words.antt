@@ -17,7 +17,7 @@ use Rattle.xv_model.specs.source.Notices.{forwards, routes}
 use Rattle.xv_model.proofs.HalvesLemmas.{routes-skips}
 use Rattle.esb_pq.specs.Word.{SourceParts}
 use Rattle.esb_pq.specs.Applied.{cell_at, by_cell, by_table, word_in}
-use Rattle.router.proofs.Elements.{set_gives}
+use Rattle.xv_model.proofs.Elements.{set_gives}
 use Rattle.fabric_core.specs.Fabric.{Held as FabricHeld}
 use Rattle.fabric_core.proofs.Skipping.{fabric-skips}
 use Rattle.machine.specs.Machine.{AreParts, word_of}
