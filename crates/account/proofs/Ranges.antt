@@ -10,7 +10,7 @@ ranges_both word [] ys = refl
 ranges_both word (x ∷ xs) ys = ap (λ v. range_line word x ++ v) (ranges_both word xs ys) ∙ sym (append_assoc (range_line word x) (ranges_text word xs) (ranges_text word ys))
 
 -- one more item is taken
-one_taken : (xs : List Span) (i : ℕ) (d : Span) → i < length xs → take (i + 1) xs ≡ take i xs ++ slice_index_or xs i d ∷ []
+pub one_taken : {A : Type 0} (xs : List A) (i : ℕ) (d : A) → i < length xs → take (i + 1) xs ≡ take i xs ++ slice_index_or xs i d ∷ []
 one_taken xs i d l = grind (arith, common_steps)
 
 -- the lines of one more range

@@ -12,7 +12,7 @@ pub mod report;
 mod tests;
 
 /// The room that the line of an entry wants, in bytes.
-pub const LONGEST_ENTRY: usize = 256;
+pub const LONGEST_ENTRY: usize = 258;
 
 /// The room that a header wants, in bytes.
 pub const LONGEST_HEADER: usize = 2048;

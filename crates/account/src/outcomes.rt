@@ -1,8 +1,8 @@
 //! The texts of outcomes.
 
-ghost use Rattle.std.specs.Prelude.{◌≡◌, ◌+◌, ◌<◌, ◌≤◌, ◌++◌, length};
+ghost use Rattle.std.specs.Prelude.{◌≡◌, ◌+◌, ◌*◌, ◌<◌, ◌≤◌, ◌++◌, length};
 ghost use Rattle.arrayvec.specs.ArrayVec.{array_vec_len};
-ghost use Rattle.account.specs.text.Outcomes.{pairs_text, forward_text, outcome_text, wrote_text, next_text, pass_text, routed_text, reply_text, phase_text, reason_text, presented_text, presentation_text, escalated_text, busy_text};
+ghost use Rattle.account.specs.text.Outcomes.{pairs_text, forward_text, outcome_text, wrote_text, next_text, pass_text, routed_text, output_text, outputs_text, reply_text, phase_text, reason_text, presented_text, presentation_text, escalated_text, busy_text};
 ghost use Rattle.xv_model.specs.account.Outcomes.{IsWellFormed};
 
 use crate::numbers::{add, add_hex, add_number, add_pair, add_short_number, add_signed};
@@ -12,7 +12,7 @@ use xv_model::outcomes::{
 };
 
 /// The room that the text of an outcome wants, in bytes.
-pub const LONGEST_OUTCOME: usize = 89;
+pub const LONGEST_OUTCOME: usize = 102;
 
 /// The room that a pair before and after wants, in bytes.
 const LONGEST_PAIRS: usize = 5;
@@ -29,8 +29,11 @@ const LONGEST_NEXT: usize = 10;
 /// The room that a pass wants, in bytes.
 const LONGEST_PASS: usize = 68;
 
-/// The room that a reply without outputs wants, in bytes.
-const LONGEST_REPLY: usize = 26;
+/// The room that an output of a reply wants, in bytes.
+const LONGEST_OUTPUT: usize = 19;
+
+/// The room that a reply with all its outputs wants, in bytes.
+const LONGEST_REPLY: usize = 102;
 
 /// The room that the phase of a processor wants, in bytes.
 pub const LONGEST_PHASE: usize = 19;
@@ -137,15 +140,38 @@ fn add_routed<const CAP: usize>(text: &mut ArrayVec<u8, CAP>, routed: &Routed)
     }
 }
 
-/// The text of a reply without outputs.
+/// An output of a reply.
+fn add_output<const CAP: usize>(text: &mut ArrayVec<u8, CAP>, n: u64)
+    requires { array_vec_len text.old + LONGEST_OUTPUT ≤ CAP }
+    ensures items { text.new.items ≡ text.old.items ++ output_text n }
+    ensures len { array_vec_len text.new ≤ array_vec_len text.old + LONGEST_OUTPUT }
+{
+    text.push(b' ');
+    add_hex(text, n);
+}
+
+/// The outputs of a reply.
+fn add_outputs<const CAP: usize>(text: &mut ArrayVec<u8, CAP>, outputs: &[u64])
+    requires { array_vec_len text.old + LONGEST_OUTPUT * length outputs.now ≤ CAP }
+    ensures items { text.new.items ≡ text.old.items ++ outputs_text outputs.now }
+    ensures len { array_vec_len text.new
+        ≤ array_vec_len text.old + LONGEST_OUTPUT * length outputs.now }
+{
+    for n in outputs {
+        add_output(text, *n);
+    }
+}
+
+/// The text of a reply.
 fn add_reply<const CAP: usize>(text: &mut ArrayVec<u8, CAP>, reply: &HReply)
     requires room { array_vec_len text.old + LONGEST_REPLY ≤ CAP }
-    requires bare { reply.now.outs ≡ 0 }
+    requires few { reply.now.outs ≤ 4 }
     ensures items { text.new.items ≡ text.old.items ++ reply_text reply.now }
     ensures len { array_vec_len text.new ≤ array_vec_len text.old + LONGEST_REPLY }
 {
     add(text, b"code ");
     add_signed(text, reply.code);
+    add_outputs(text, &reply.out[..reply.outs as usize]);
 }
 
 /// Appends where a processor's context is.

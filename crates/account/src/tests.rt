@@ -7,6 +7,7 @@ ghost use Rattle.xv_model.specs.account.Outcomes.{IsWellFormed};
 
 mod escalations;
 mod processors;
+mod replies;
 
 use crate::entry::add_entry;
 use crate::header::add_header;

@@ -51,10 +51,14 @@ routed_text NoSource = codes "no-source"
 routed_text Masked = codes "masked"
 routed_text (Run pass) = pass_text pass
 
+-- an output of a reply
+abbrev pub output_text : ℕ → List ℕ
+output_text n = codes " " ++ hex n
+
 -- the outputs of a reply
 abbrev pub outputs_text : List ℕ → List ℕ
 outputs_text [] = []
-outputs_text (n ∷ ns) = codes " " ++ hex n ++ outputs_text ns
+outputs_text (n ∷ ns) = output_text n ++ outputs_text ns
 
 abbrev pub reply_text : HReply → List ℕ
 reply_text reply = codes "code " ++ signed_decimal reply.code ++ outputs_text (take reply.outs reply.out)
