@@ -1,20 +1,24 @@
 -- What is read of a line fits its stage, whatever its bytes are.
-use Rattle.std.proofs.Common.{ℕ, ◌≡◌, ◌<◌, ◌+◌, ◌^◌, ◌&&◌, ◌||◌, ◌==◌, nat_lt, not, Bool, true, false, if◌then◌else◌, List, [], ◌∷◌, codes, Option, Some, None, Ok, Err, IfSome, IfOk, refl, subst, arith}
+use Rattle.std.proofs.Common.{ℕ, ◌≡◌, ◌<◌, ◌+◌, ◌-◌, ◌^◌, ◌&&◌, ◌||◌, ◌==◌, nat_lt, not, Bool, true, false, if◌then◌else◌, List, [], ◌∷◌, codes, Option, Some, None, Ok, Err, IfSome, IfOk, refl, subst, arith}
 use Rattle.std.specs.Cmp.Derive.{both_true}
+use Rattle.std.specs.Option.{option_map_or}
 use Rattle.std.proofs.lemmas.Bool.Decides.{nat_tests}
 use Rattle.xv_base.specs.Limits.{most_sources, most_processors, most_threads, most_actors, most_ram_mib, most_ranges}
 use Rattle.xv_model.specs.declared.board.Board.{Board}
 use Rattle.xv_model.specs.declared.board.Span.{Span}
 use Rattle.xv_model.specs.declared.board.Spans.{Spans}
-use Rattle.xv_model.specs.declared.hypercalls.TheConstants.{H_INT_SET_SOURCE_CONFIG}
+use Rattle.xv_model.specs.declared.hypercalls.Call.{Call}
+use Rattle.xv_model.specs.declared.hypercalls.Call.TheVariants as call
+use Rattle.xv_model.specs.declared.pages.TheConstants.{PAGE_SIZE}
+use Rattle.xv_model.specs.call.Arguments.{call_of}
 use Rattle.xv_model.specs.declared.tima.TheConstants.{CAM_VALID, CAM_FIRST}
 use Rattle.xv_model.specs.declared.operations.EndConfig.{EndConfig}
 use Rattle.xv_model.specs.declared.operations.PqOp.TheVariants.{Raise, Lower, Init}
 use Rattle.xv_model.specs.declared.operations.Op.TheVariants as op
-use Rattle.xv_model.specs.board.Boards.{IsBoard, is_level}
+use Rattle.xv_model.specs.board.Boards.{IsBoard, is_level, source_pages}
 use Rattle.xv_model.specs.board.Validity.{valid}
 use Rattle.board_script.specs.declared.faults.Cause.{Cause}
-use Rattle.board_script.specs.declared.faults.Cause.TheVariants.{OutOfRange, NotLevel, BadEnd, NotBuilt}
+use Rattle.board_script.specs.declared.faults.Cause.TheVariants.{OutOfRange, NotLevel, BadEnd}
 use Rattle.board_script.specs.declared.stage.Turn.{Turn}
 use Rattle.board_script.specs.declared.stage.Turn.TheVariants as turns
 use Rattle.board_script.specs.declared.stage.Stage.{Stage}
@@ -22,7 +26,11 @@ use Rattle.board_script.specs.declared.stage.Stage.TheVariants.{Header, Work, St
 use Rattle.board_script.specs.declared.lines.Said.{Said}
 use Rattle.board_script.specs.declared.lines.Said.TheVariants as said
 use Rattle.board_script.specs.declared.work.Work.{Work as AWork}
-use Rattle.board_script.specs.Work.{once, then_route, HasValidSteps}
+use Rattle.board_script.specs.declared.work.Then.TheVariants.{Done, Sync}
+use Rattle.board_script.specs.Work.{once, then_route, WithThen, HasValidSteps}
+use Rattle.board_script.specs.Calling.{management_number, esb_access, then_called, calls}
+use Rattle.xv_model.specs.declared.hypercalls.TheConstants.{H_INT_RESET}
+use Rattle.xv_model.specs.declared.hypercalls.arguments.EsbArgs.{EsbArgs}
 use Rattle.board_script.specs.Words.{skip, says_nothing, word_of, rest_of, is_word}
 use Rattle.board_script.specs.Numbers.{number_of}
 use Rattle.board_script.specs.Grammar.{Grammar, Stop, some_at, read_at, refused_at, walk}
@@ -60,10 +68,37 @@ escalation_says b e c esc p payload q =
 cam_below : (b : Board) (v : ℕ) → IsBoard b → nat_lt v b.limits.processors ≡ true → nat_lt (CAM_VALID + CAM_FIRST + v) (2 ^ 32) ≡ true
 cam_below b v is below = let few = is.processors in grind (arith, nat_tests)
 
+-- the last page of a source is one of its pages
+last_page : (b : Board) → nat_lt (management_number b) (source_pages b) ≡ true
+last_page b = by b.two_pages
+  where
+    by : (two : Bool) → nat_lt ((if two then 2 else 1) - 1) (if two then 2 else 1) ≡ true
+    by true = refl
+    by false = refl
+
+-- what a call goes on with is valid
+access_says : (b : Board) (c : EsbArgs) (number : ℕ) (args : List ℕ) (s offset : Bool) → nat_lt c.lisn b.limits.sources ≡ s → WithThen b (op.Hcall number args) (if s && offset then esb_access b c else Done)
+access_says b c number args true true e = (refl, both_true e (last_page b))
+access_says b c number args true false e = refl
+access_says b c number args false offset e = refl
+
+sync_says : (b : Board) (s number : ℕ) (args : List ℕ) (known : Bool) → nat_lt s b.limits.sources ≡ known → WithThen b (op.Hcall number args) (if known then Sync s else Done)
+sync_says b s number args true e = (tt, e)
+sync_says b s number args false e = refl
+
+called_says : (b : Board) (number : ℕ) (args : List ℕ) (m : Option Call) → WithThen b (op.Hcall number args) (option_map_or (then_called b) m Done)
+called_says b number args (Some (call.Esb c)) = access_says b c number args (nat_lt c.lisn b.limits.sources) (nat_lt c.offset PAGE_SIZE) refl
+called_says b number args (Some (call.Sync c)) = sync_says b c.lisn number args (nat_lt c.lisn b.limits.sources) refl
+called_says b number args (Some (call.Reset c)) = (refl, omega arith)
+called_says b number args (Some _) = refl
+called_says b number args None = refl
+
+calls_says : (b : Board) (number : ℕ) (args : List ℕ) → HasValidSteps b (calls b number args)
+calls_says b number args = called_says b number args (call_of number args)
+
 unbuilt_say : (b : Board) → RowsSay b (unbuilt_rows b)
 unbuilt_say b =
     tt
-    & tt
     & (λ g p attr q value r. tt)
     & (λ attr p flags q shift r addr u toggle v index w. tt)
     & (λ g p attr q. tt)
@@ -91,7 +126,8 @@ rare_say b is =
     & (λ addr p. refl)
     & (λ addr p len q. refl)
     & (λ e p flags q vp r priority u addr v shift w. escalation_says b e (record (notifying flags vp priority) { qaddr = addr; qshift = shift }))
-    & (λ number p a q c r d u e v f w. tested b (number == H_INT_SET_SOURCE_CONFIG) (once (op.Hcall number (a ∷ c ∷ d ∷ e ∷ f ∷ []))) NotBuilt (λ e. e))
+    & (λ number p a q c r d u e v f w. calls_says b number (a ∷ c ∷ d ∷ e ∷ f ∷ []))
+    & calls_says b H_INT_RESET (0 ∷ 0 ∷ 0 ∷ 0 ∷ 0 ∷ [])
     & moves_say b is
 
 ring_say : (b : Board) → IsBoard b → RowsSay b (ring_rows b)

@@ -1,11 +1,14 @@
+pub mod AcceptedCalls
 pub mod Accounts
 pub mod Eights
 pub mod Grammars
 pub mod Fitting
+pub mod Initialised
 pub mod Passing
 pub mod WorkLines
 pub mod Reading
 pub mod Staying
 pub mod Resting
+pub mod Resets
 pub mod Walks
 pub mod HeaderLines

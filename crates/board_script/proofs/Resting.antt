@@ -9,14 +9,18 @@ use Rattle.xv_model.specs.declared.entries.Entry.{Entry}
 use Rattle.xv_model.specs.account.Start.{Start}
 use Rattle.xv_model.specs.account.Legal.{IsLegal, legal}
 use Rattle.xv_model.specs.account.Kinds.{is_word}
+use Rattle.xv_model.specs.call.Accepted.{is_success}
 use Rattle.xv_model.specs.source.Notices.{routes, outstanding, sum_below}
 use Rattle.xv_model.specs.source.Eas.{eas}
 use Rattle.xv_model.specs.route.Flight.{flight, messages_after}
 use Rattle.xv_model.specs.route.Quiet.{quiet_answer}
 use Rattle.xv_model.specs.route.Routing.{routed_by, route_outcome}
 use Rattle.xv_model.specs.declared.messages.Message.{Message}
-use Rattle.board_script.specs.Work.{has_found, settling, resting, first_from, draining, settle, sync, drain, next_op, AreSteps, last_outcome, HasPassed}
-use Rattle.board_script.specs.Resting.{IsAtRest, SettlesLeaveNoMessage, SyncsEndQuiet, DrainsLeaveNothing}
+use Rattle.board_script.specs.declared.work.Work.{Work}
+use Rattle.board_script.specs.declared.work.Then.TheVariants.{Sync}
+use Rattle.board_script.specs.Work.{has_found, settling, resting, first_from, draining, settle, drain, next_op, AreSteps, last_outcome, HasPassed, BeginsRest}
+use Rattle.board_script.specs.Resting.{HasEnded, IsAtRest, SettlesLeaveNoMessage, SyncsEndQuiet, SyncCallsEndQuiet, DrainsLeaveNothing}
+use Rattle.board_script.proofs.AcceptedCalls.{sync_called}
 use Rattle.board_script.proofs.Passing.{zero_at, none_is, sum_passed}
 use Rattle.board_script.proofs.WorkLines.{IsTaken, take_empties, take_answers, rested, stays_zero, are_steps}
 
@@ -51,6 +55,7 @@ settles_leave_no_message z actor before part ended =
 abbrev GoesOn : Outcome → Type 0
 GoesOn out.Quiet = ⊥
 GoesOn (out.Busy notices messages) = ⊥
+GoesOn (out.Reply reply) = is_success reply.code ≡ true
 GoesOn _ = Unit {0}
 
 take_goes_on : (u : Outcome) → IsTaken u → GoesOn u
@@ -72,6 +77,7 @@ settled : (m : Option Op) (u : Outcome) → GoesOn u → settling m u ≡ None �
 settled m out.NoMessage on e = (refl, e)
 settled m out.Quiet on e = absurd on
 settled m (out.Busy notices messages) on e = absurd on
+settled m (out.Reply reply) on e = let goes : ◌≡◌ {A = Option Op} (Some (op.Take 0)) None = sym (ap (λ b. if b then Some (op.Take 0) else None) on) ∙ e in cc
 settled m _ on e = cc
 
 -- what it makes is a take, or what it does once it has settled
@@ -79,6 +85,7 @@ settling_is : (P : Op → Type 0) (m : Option Op) (u : Outcome) (o : Op) → P (
 settling_is P m out.NoMessage o take rest e = rest refl e
 settling_is P m out.Quiet o take rest e = cc
 settling_is P m (out.Busy notices messages) o take rest e = cc
+settling_is P m (out.Reply reply) o take rest e = subst P (sym (take_is (is_success reply.code) o e)) take
 settling_is P m _ o take rest e = let here : op.Take 0 ≡ o = cc in subst P here take
 
 -- the answer to a take or a route is one after which it goes on
@@ -115,6 +122,10 @@ drains_leave_nothing z actor before part ended =
     let n = z.board.limits.sources in
     drain_leaves z n before part (are_steps z (record { actor = actor; work = drain n }) before part ended.part_is.begins) ended.part_is.ends ended.legal
 
+-- a line that brings a source to rest, by its first operation
+abbrev rests : Op → ℕ → Work
+rests first s = record { first = first; then = Sync s }
+
 -- what a line that brings a source to rest has asked for when it ends: nothing is in flight, and the source has no notice outstanding
 pub record HasAsked (z : Start) (h : List Entry) (s : ℕ) (o : Op) : Type 0 where
   pub is : o ≡ op.Quiet s
@@ -129,12 +140,13 @@ rest_step : (z : Start) (h : List Entry) (s : ℕ) (o : Op) (none : Bool) → (o
 rest_step z h s o true is empty e = let here : op.Quiet s ≡ o = cc in Asks (record { is = sym here; rest = record { no_message = empty; no_notice = zero_at (outstanding z h s) is } })
 rest_step z h s o false is empty e = let here : op.Route s ≡ o = cc in On (subst (λ p. GoesOn (legal z h p)) here (route_goes_on z h s))
 
-sync_step : (z : Start) (s : ℕ) (before part : List Entry) (o : Op) → AreSteps (sync s) z before part → IsLegal z (part ++ before) → next_op (sync s) z before part ≡ Some o → Step z (part ++ before) s o
-sync_step z s before [] o steps l e = let here : op.Take 0 ≡ o = cc in On (subst (λ p. GoesOn (legal z before p)) here (take_legal z before))
-sync_step z s before (x ∷ part) o steps l e =
+sync_step : (z : Start) (first : Op) (s : ℕ) (before part : List Entry) (o : Op) → BeginsRest first → GoesOn (legal z before first) → AreSteps (rests first s) z before part → IsLegal z (part ++ before) → next_op (rests first s) z before part ≡ Some o →
+    Step z (part ++ before) s o
+sync_step z first s before [] o begins on steps l e = let here : first ≡ o = cc in On (subst (λ p. GoesOn (legal z before p)) here on)
+sync_step z first s before (x ∷ part) o begins on steps l e =
     let h = x ∷ (part ++ before) in
     settling_is (λ p. Step z h s p) (Some (resting s (outstanding z h s))) x.outcome o (On (take_legal z h)) (λ none is.
-    rest_step z h s o (outstanding z h s == 0) refl (rested (sync s) z before part x refl tt steps.0 steps.1 l none) is) e
+    rest_step z h s o (outstanding z h s == 0) refl (rested (rests first s) z before part x begins tt steps.0 steps.1 l none) is) e
 
 -- a source at rest is quiet
 rest_quiet : (z : Start) (h : List Entry) (s : ℕ) → IsAtRest z h s → quiet_answer z h s ≡ out.Quiet
@@ -160,11 +172,18 @@ sync_ends z before part x s is none (Asks asked) =
     let h = part ++ before in
     (asked_rest z h x s asked.is asked.rest, ap (λ u. Some u) (is ∙ ap (legal z h) asked.is ∙ rest_quiet z h s asked.rest))
 
-sync_leaves : (z : Start) (s : ℕ) (before part : List Entry) → AreSteps (sync s) z before part → next_op (sync s) z before part ≡ None → IsLegal z (part ++ before) →
+sync_leaves : (z : Start) (first : Op) (s : ℕ) (before part : List Entry) → BeginsRest first → GoesOn (legal z before first) → AreSteps (rests first s) z before part → next_op (rests first s) z before part ≡ None → IsLegal z (part ++ before) →
     IsAtRest z (part ++ before) s × (last_outcome part ≡ Some out.Quiet)
-sync_leaves z s before [] steps none l = cc
-sync_leaves z s before (x ∷ part) steps none l = sync_ends z before part x s l.1.outcome none (sync_step z s before part x.op steps.0 l.0 steps.1)
+sync_leaves z first s before [] begins on steps none l = cc
+sync_leaves z first s before (x ∷ part) begins on steps none l = sync_ends z before part x s l.1.outcome none (sync_step z first s before part x.op begins on steps.0 l.0 steps.1)
+
+rests_leave : (z : Start) (actor : ℕ) (first : Op) (s : ℕ) (before part : List Entry) → BeginsRest first → GoesOn (legal z before first) → HasEnded z actor (rests first s) before part → IsAtRest z (part ++ before) s × (last_outcome part ≡ Some out.Quiet)
+rests_leave z actor first s before part begins on ended =
+    sync_leaves z first s before part begins on (are_steps z (record { actor = actor; work = rests first s }) before part ended.part_is.begins) ended.part_is.ends ended.legal
 
 pub syncs_end_quiet : SyncsEndQuiet
-syncs_end_quiet z actor s before part ended =
-    sync_leaves z s before part (are_steps z (record { actor = actor; work = sync s }) before part ended.part_is.begins) ended.part_is.ends ended.legal
+syncs_end_quiet z actor s before part ended = rests_leave z actor (op.Take 0) s before part refl (take_legal z before) ended
+
+pub sync_calls_end_quiet : SyncCallsEndQuiet
+sync_calls_end_quiet z actor number args c before part a ended =
+    rests_leave z actor (op.Hcall number args) c.lisn before part tt a.succeeds (subst (λ w. HasEnded z actor w before part) (sync_called z before number args c a) ended)

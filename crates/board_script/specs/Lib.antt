@@ -7,6 +7,7 @@ pub mod Flags
 pub mod Grammar
 pub mod FirstWords
 pub mod Work
+pub mod Calling
 pub mod Operations
 pub mod Working
 pub mod Header
@@ -15,3 +16,4 @@ pub mod Stage
 pub mod Parser
 pub mod Script
 pub mod Resting
+pub mod Accepted

@@ -2,7 +2,6 @@
 use Rattle.std.specs.Prelude.{ℕ, ◌==◌, ◌+◌, ◌*◌, ◌^◌, ◌||◌, not, Bool, true, false, if◌then◌else◌, List, [], ◌∷◌, Ok, Err, codes}
 use Rattle.std.specs.declared.result.Result.{Result}
 use Rattle.xv_model.specs.declared.board.Board.{Board}
-use Rattle.xv_model.specs.declared.hypercalls.TheConstants.{H_INT_SET_SOURCE_CONFIG}
 use Rattle.xv_model.specs.declared.operations.Access.TheVariants.{Load, Store}
 use Rattle.xv_model.specs.declared.operations.EndConfig.{EndConfig}
 use Rattle.xv_model.specs.declared.operations.Op.{Op}
@@ -17,6 +16,7 @@ use Rattle.board_script.specs.declared.faults.Cause.{Cause}
 use Rattle.board_script.specs.declared.faults.Cause.TheVariants.{NotLevel, BadEnd, NotBuilt}
 use Rattle.board_script.specs.declared.work.Work.{Work}
 use Rattle.board_script.specs.Work.{once, then_route, settle, sync, drain}
+use Rattle.board_script.specs.Calling.{calls, reset}
 use Rattle.board_script.specs.Flags.{of_bits}
 use Rattle.board_script.specs.Grammar.{Form, Number, AnyNumber, Size, Pair, Flags, Grammar, Stop, Word}
 
@@ -64,10 +64,6 @@ initialises b s asserted = if is_level b s || not asserted then does (op.Pq s (I
 abbrev pub configures : Board → ℕ → EndConfig → Result Work Cause
 configures b e c = if valid b (op.EndSet e c) then does (op.EndSet e c) else Err BadEnd
 
--- a hypercall; H_INT_SET_SOURCE_CONFIG is the only one that is built
-abbrev pub calls : ℕ → List ℕ → Result Work Cause
-calls number args = if number == H_INT_SET_SOURCE_CONFIG then does (op.Hcall number args) else Err NotBuilt
-
 -- ---- the words after a name
 
 abbrev pub nothing : Work → Grammar Work
@@ -110,11 +106,12 @@ abbrev pub configuration : Board → Grammar Work
 configuration b = Word (end_number b) (λ e. Word Flags (λ flags. target b e flags))
 
 -- the number of a hypercall, and its five arguments
-abbrev pub last_args : ℕ → ℕ → ℕ → Grammar Work
-last_args number a b = Word AnyNumber (λ c. Word AnyNumber (λ d. Word AnyNumber (λ e. Stop (calls number (a ∷ b ∷ c ∷ d ∷ e ∷ [])))))
+abbrev pub last_args : Board → ℕ → ℕ → ℕ → Grammar Work
+last_args board number a b =
+    Word AnyNumber (λ c. Word AnyNumber (λ d. Word AnyNumber (λ e. Stop (Ok (calls board number (a ∷ b ∷ c ∷ d ∷ e ∷ []))))))
 
-abbrev pub hypercall : Grammar Work
-hypercall = Word AnyNumber (λ number. Word AnyNumber (λ a. Word AnyNumber (λ b. last_args number a b)))
+abbrev pub hypercall : Board → Grammar Work
+hypercall board = Word AnyNumber (λ number. Word AnyNumber (λ a. Word AnyNumber (λ b. last_args board number a b)))
 
 -- the CAM word of a processor, with its valid bit
 abbrev pub cam_store : ℕ → ℕ → Op
@@ -132,8 +129,7 @@ row name words = record { name = name; words = words }
 -- lines that the grammar has, and that aren't built yet
 abbrev pub unbuilt_rows : Board → List Row
 unbuilt_rows b =
-    row (codes "reset") (Stop (Err NotBuilt))
-    ∷ row (codes "migrate") (Stop (Err NotBuilt))
+    row (codes "migrate") (Stop (Err NotBuilt))
     ∷ row (codes "kvmset") (Word word32 (λ g. two AnyNumber AnyNumber (λ attr value. Err NotBuilt)))
     ∷ row (codes "kvmeq") (Word AnyNumber (λ attr. Word word32 (λ flags. Word word32 (λ shift. Word AnyNumber (λ addr. two word32 word32 (λ toggle index. Err NotBuilt))))))
     ∷ row (codes "kvmget") (two word32 AnyNumber (λ g attr. Err NotBuilt))
@@ -163,7 +159,8 @@ rare_rows b =
     ∷ row (codes "peek") (one AnyNumber (λ addr. does (op.Peek addr)))
     ∷ row (codes "zero") (two AnyNumber AnyNumber (λ addr len. does (op.Zero addr len)))
     ∷ row (codes "endset") (configuration b)
-    ∷ row (codes "hcall") hypercall
+    ∷ row (codes "hcall") (hypercall b)
+    ∷ row (codes "reset") (nothing (reset b))
     ∷ move_rows b
 
 -- lines on messages, or on the ring of a thread

@@ -1,16 +1,15 @@
-//! Work lines that configure an END or a source, by what stands after the name of the operation.
+//! Work lines that configure an END, by what stands after the name of the operation.
 
 ghost use Rattle.std.specs.Prelude.{◌≡◌, ℕ, List, length};
 ghost use Rattle.xv_model.specs.board.Boards.{IsBoard};
 ghost use Rattle.board_script.specs.Grammar.{read_at, walk};
-ghost use Rattle.board_script.specs.Operations.{calls, configuration, configures, escalation as escalation_words, hypercall, last_args as last_words, queue as queue_words, target as target_words};
+ghost use Rattle.board_script.specs.Operations.{configuration, configures, escalation as escalation_words, queue as queue_words, target as target_words};
 
 use crate::faults::{Cause, Misread};
 use crate::flags::with_bits;
 use crate::words::Words;
 use crate::work::Work;
 use xv_model::board::Board;
-use xv_model::hypercalls::H_INT_SET_SOURCE_CONFIG;
 use xv_model::operations::{EndConfig, Op};
 use xv_model::validity::valid;
 
@@ -96,39 +95,4 @@ pub fn endset(board: &Board, left: usize, words: &mut Words) -> Result<Work, Mis
     let e = words.end_number(board)?;
     let flags = words.flags()?;
     target(board, left, e, flags, words)
-}
-
-/// A call of this number; where it isn't the only one that is built, it is refused at the name of the operation, where
-/// so many bytes are left.
-fn call(left: usize, number: u64, args: [u64; 5]) -> Result<Work, Misread>
-    ensures { (at : List ℕ) → length at ≡ left → result ≡ read_at at (calls number args) }
-{
-    if number == H_INT_SET_SOURCE_CONFIG {
-        return Ok(Work::once(Op::Hcall { number, args }));
-    }
-    Err(Misread {
-        cause: Cause::NotBuilt,
-        left,
-    })
-}
-
-/// A call, by its number, its first two arguments and what stands after them.
-fn last_args(left: usize, number: u64, a: u64, b: u64, words: &mut Words) -> Result<Work, Misread>
-    ensures { (at : List ℕ) → length at ≡ left → result ≡ walk at (last_words number a b) words.old }
-{
-    let c = words.number()?;
-    let d = words.number()?;
-    let e = words.number()?;
-    words.done()?;
-    call(left, number, [a, b, c, d, e])
-}
-
-/// A hypercall.
-pub fn hcall(left: usize, words: &mut Words) -> Result<Work, Misread>
-    ensures { (at : List ℕ) → length at ≡ left → result ≡ walk at hypercall words.old }
-{
-    let number = words.number()?;
-    let a = words.number()?;
-    let b = words.number()?;
-    last_args(left, number, a, b, words)
 }

@@ -1,6 +1,7 @@
 //! Board scripts: what each line of one says. Nothing here runs a board.
 #![tactic(auto)]
 
+mod calling;
 mod configuring;
 mod ends;
 pub mod faults;
@@ -14,6 +15,7 @@ mod numbers;
 mod pages;
 pub mod parser;
 mod processors;
+mod resetting;
 mod sources;
 pub mod stage;
 #[cfg(test)]

@@ -1,5 +1,6 @@
 //! Scripts, spellings and refusals, by what the lines are about.
 
+mod calls;
 mod causes;
 mod configuring;
 mod memory;
@@ -26,7 +27,7 @@ use xv_model::operations::Op;
 use xv_model::outcomes::Outcome;
 
 /// Knows of the sources of the largest board, of no account: one notice of this source is outstanding, and no
-/// other one.
+/// other one; and the sources 2, 7 and 8191 are initialised.
 #[derive(Clone, Copy)]
 pub struct Blind {
     pub busy: u32,
@@ -41,8 +42,8 @@ impl Known for Blind {
         if s == self.busy { 1 } else { 0 }
     }
 
-    fn initialised(&self, _s: u32) -> bool {
-        false
+    fn initialised(&self, s: u32) -> bool {
+        s == 2 || s == 7 || s == 8191
     }
 
     fn pq(&self, _s: u32) -> u8 {
@@ -57,6 +58,7 @@ fn asks_known(then: &Then) -> bool
     match then {
         Then::Sync { s } => *s < 8192,
         Then::Drain { sources, .. } => *sources <= 8192,
+        Then::Reset { sources, .. } => *sources <= 8192,
         _ => true,
     }
 }

@@ -22,8 +22,8 @@ fn refuse(left: usize, words: &mut Words) -> Result<Work, Misread>
     })
 }
 
-/// `reset`, or `migrate`.
-pub fn bare_line(left: usize, words: &mut Words) -> Result<Work, Misread>
+/// `migrate`.
+pub fn migrate_line(left: usize, words: &mut Words) -> Result<Work, Misread>
     ensures { (at : List ℕ) → length at ≡ left → result ≡ walk {A = AWork} at (Stop (Err NotBuilt)) words.old }
 {
     refuse(left, words)

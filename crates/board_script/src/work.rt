@@ -8,8 +8,11 @@ ghost use Rattle.xv_model.specs.source.Notices.{outstanding};
 ghost use Rattle.xv_model.specs.board.Validity.{valid};
 ghost use Rattle.board_script.specs.declared.work.Work.{Work as AWork};
 ghost use Rattle.xv_model.specs.laws.Triggers.{is_forwarded};
-ghost use Rattle.board_script.specs.Work.{has_found, settling, resting, first_from, draining, HasPassed};
+ghost use Rattle.xv_model.specs.call.Accepted.{is_success};
+ghost use Rattle.board_script.specs.Work.{has_found, is_accepted, settling, resting, first_from, draining, HasPassed};
 
+use crate::resetting::reset_next;
+use xv_model::hypercalls::codes::H_SUCCESS;
 use xv_model::known::Known;
 use xv_model::operations::{Op, PqOp};
 use xv_model::outcomes::Outcome;
@@ -20,19 +23,39 @@ pub enum Then {
     /// It is done.
     Done,
     /// The notice of this source is routed, where the operation forwarded one.
-    Route { s: u32 },
+    Route {
+        s: u32,
+    },
     /// The oldest message is taken, where the operation took one.
     Take,
     /// Messages are taken until there is none, and then also after each route of an outstanding notice of this
     /// source; then it is asked whether the source is quiet.
-    Sync { s: u32 },
+    Sync {
+        s: u32,
+    },
     /// Messages are taken until there is none, and then also after each route of an outstanding notice of the
     /// sources below `sources`, rising. Those below `from` have no outstanding notice.
-    Drain { from: u32, sources: u32 },
+    Drain {
+        from: u32,
+        sources: u32,
+    },
+    /// A page of this source is accessed, where the call was accepted.
+    Esb {
+        s: u32,
+        page: u8,
+        offset: u16,
+        store: bool,
+    },
+    /// The pairs of the initialised sources below `sources` are set to 01, rising, where the call was accepted.
+    /// Those below `from` are done.
+    Reset {
+        from: u32,
+        sources: u32,
+    },
 }
 
 /// A work line on its way: its first operation, and how it goes on. Where it stands is told by the outcome of
-/// its last operation, and, where it drains, by its place: the first source that it still looks at.
+/// its last operation, and, where it drains or resets, by its place: the first source that it still looks at.
 #[derive(Clone, Copy)]
 pub struct Work {
     pub first: Op,
@@ -56,14 +79,32 @@ fn found(outcome: &Outcome) -> bool
     matches!(outcome, Outcome::Present { .. } | Outcome::Escalated { .. })
 }
 
+/// Whether a call was accepted, by its code.
+pub fn succeeded(code: i64) -> bool
+    ensures { result ≡ is_success code }
+{
+    code == H_SUCCESS
+}
+
+/// Whether an operation is a call that was accepted, by what it answered.
+fn accepted(outcome: &Outcome) -> bool
+    ensures { result ≡ is_accepted outcome.now }
+{
+    match outcome {
+        Outcome::Reply { reply } => succeeded(reply.code),
+        _ => false,
+    }
+}
+
 /// The operation of a line that settles, after one that answered this: takes until there is no message, and
-/// then `settled`.
+/// then `settled`; none after a call that was refused.
 fn settling(outcome: &Outcome, settled: Op) -> Option<Op>
     ensures { result ≡ settling (Some settled) outcome.now }
 {
     match outcome {
         Outcome::NoMessage => Some(settled),
         Outcome::Quiet | Outcome::Busy { .. } => None,
+        Outcome::Reply { reply } if !succeeded(reply.code) => None,
         _ => Some(Op::Take { i: 0 }),
     }
 }
@@ -115,12 +156,13 @@ fn drained<N: Known>(outcome: &Outcome, from: &mut u32, sources: u32, known: &N)
             Some(Op::Route { s })
         }
         Outcome::Quiet | Outcome::Busy { .. } => None,
+        Outcome::Reply { reply } if !succeeded(reply.code) => None,
         _ => Some(Op::Take { i: 0 }),
     }
 }
 
 impl Work {
-    ghost use Rattle.board_script.specs.Work.{once, then_route, sync, drain, op_from_place, next_op, place_of, at_place, IsAt, IsLast, Falls, HasValidSteps, AsksBelow};
+    ghost use Rattle.board_script.specs.Work.{once, then_route, sync, drain, op_from_place, next_op, place_of, at_place, MovesTo, IsAt, IsLast, Falls, HasValidSteps, AsksBelow};
 
     /// Takes of the oldest message, until there is none.
     pub(crate) const SETTLE: Work = Work {
@@ -168,17 +210,20 @@ impl Work {
         }
     }
 
-    /// Before the first operation: a line that drains begins with the first source.
+    /// Before the first operation: a line that drains or resets begins with the first source.
     pub fn begin(&mut self)
         ensures { self.new ≡ at_place 0 self.old }
     {
-        if let Then::Drain { from, .. } = &mut self.then {
-            *from = 0;
+        match &mut self.then {
+            Then::Drain { from, .. } => *from = 0,
+            Then::Reset { from, .. } => *from = 0,
+            _ => {}
         }
     }
 
     /// The operation that the line makes after one that answered this. A line that drains moves on past sources
-    /// that have no outstanding notice; nothing else of a line changes.
+    /// that have no outstanding notice, and one that resets behind the source that it sets; nothing else of a
+    /// line changes.
     fn following<N: Known>(&mut self, outcome: &Outcome, known: &N) -> Option<Op>
         requires sources { AsksBelow (N.sources known.now) self.old.then }
         ensures value { (z : Start) (h : List Entry) → N.knows known.now z h →
@@ -186,14 +231,26 @@ impl Work {
         ensures valid { IfSome result (λ o. (b : Board) →
             HasValidSteps b self.old → IsTrue (valid b o)) }
         ensures place { self.new ≡ at_place (place_of self.new.then) self.old }
-        ensures passed { (z : Start) (h : List Entry) → N.knows known.now z h →
-            HasPassed (outstanding z h) (place_of self.old.then) (place_of self.new.then) }
+        ensures moves { IfSome result (λ o. (z : Start) (h : List Entry) → N.knows known.now z h →
+            MovesTo self.old.then (place_of self.new.then) z h o) }
     {
         match &mut self.then {
             Then::Route { s } if forwarded(outcome) => Some(Op::Route { s: *s }),
             Then::Take if found(outcome) => Some(Op::Take { i: 0 }),
             Then::Sync { s } => settling(outcome, resting(*s, known.out(*s))),
             Then::Drain { from, sources } => drained(outcome, from, *sources, known),
+            Then::Esb {
+                s,
+                page,
+                offset,
+                store,
+            } if accepted(outcome) => Some(Op::Esb {
+                s: *s,
+                page: *page,
+                offset: *offset,
+                store: *store,
+            }),
+            Then::Reset { from, sources } => reset_next(outcome, from, *sources, known),
             _ => None,
         }
     }

@@ -8,7 +8,8 @@ ghost use Rattle.board_script.specs.FirstWords.{out_of_turn as cause_of};
 ghost use Rattle.board_script.specs.Operations.{move_rows, rare_rows, ring_rows, rows, unbuilt_rows};
 ghost use Rattle.board_script.specs.Working.{actor_by, words_after, work_by, work_of};
 
-use crate::configuring::{endset, hcall};
+use crate::calling::{hcall, reset_line};
+use crate::configuring::endset;
 use crate::faults::{Cause, Misread};
 use crate::first_words::out_of_turn;
 use crate::lines::Said;
@@ -23,7 +24,7 @@ use crate::sources::{
     access_line, assert_line, init_line, level_line, quiet_line, route_line, set_line, sync_line,
     then_route,
 };
-use crate::unbuilt::{bare_line, kvmeq_line, kvmget_line, kvmset_line, vpget_line, vpset_line};
+use crate::unbuilt::{kvmeq_line, kvmget_line, kvmset_line, migrate_line, vpget_line, vpset_line};
 use crate::words::{Words, same};
 use crate::work::Work;
 use xv_model::board::Board;
@@ -39,8 +40,8 @@ fn named_unbuilt(
     ensures { (at : List ℕ) → length at ≡ left
         → result ≡ work_by at (words_after (unbuilt_rows board.now) name.now) words.old }
 {
-    if same(name, b"reset") || same(name, b"migrate") {
-        return bare_line(left, words);
+    if same(name, b"migrate") {
+        return migrate_line(left, words);
     }
     if same(name, b"kvmset") {
         return kvmset_line(left, words);
@@ -120,7 +121,10 @@ fn named_rarely(board: &Board, left: usize, name: &[u8], words: &mut Words) -> R
         return endset(board, left, words);
     }
     if same(name, b"hcall") {
-        return hcall(left, words);
+        return hcall(board, words);
+    }
+    if same(name, b"reset") {
+        return reset_line(board, words);
     }
     named_move(board, left, name, words)
 }

@@ -66,11 +66,8 @@ fn refuses_lines_of_work(rt: HostRuntime) {
 #[test]
 fn refuses_what_is_not_built(rt: HostRuntime) {
     let lines = [
-        (b"0 hcall 0x3a8 0 0 0 0 0".as_slice(), Cause::NotBuilt, 3),
-        (b"0 hcall 0x3a8 0 0 0 0", Cause::MissingWord, 22),
-        (b"0 reset", Cause::NotBuilt, 3),
-        (b"0 reset 0", Cause::ExtraWord, 9),
-        (b"0 migrate", Cause::NotBuilt, 3),
+        (b"0 migrate".as_slice(), Cause::NotBuilt, 3),
+        (b"0 migrate 0", Cause::ExtraWord, 11),
         (b"0 kvmset 1 0x1 0x0", Cause::NotBuilt, 3),
         (b"0 kvmset 0x100000000 0x1 0x0", Cause::OutOfRange, 10),
         (b"0 kvmeq 0x0 0x1 16 0x1000 0 0", Cause::NotBuilt, 3),

@@ -1,35 +1,9 @@
-//! Lines that configure an END or a source.
+//! Lines that configure an END.
 
 use crate::tests::{assert_places, assert_read, next_of, work_of};
 use bitflags::Flags;
 use xv_model::operations::Op;
 use xv_model::outcomes::Outcome;
-
-#[test]
-fn reads_and_refuses_hypercalls(rt: HostRuntime) {
-    let good = [
-        b"0 hcall 0x3AC 0 1 2 3 4".as_slice(),
-        b"0 hcall 940 0xffffffffffffffff 18446744073709551615 0 0 0",
-    ];
-    let bad = [
-        b"0 hcall".as_slice(),
-        b"0 hcall 0x3a8 0 1 2 3 4",
-        b"0 hcall 0x3ac 0 1 2 3",
-        b"0 hcall 0x3ac 0 1 2 3 4 5",
-        b"0 hcall 0x3ac 0 1 2 3 18446744073709551616",
-        b"0 hcall 0x3ac 0 1 - 3 4",
-        b"16 hcall 0x3ac 0 1 2 3 4",
-    ];
-    assert_read(&rt, &good, true);
-    assert_read(&rt, &bad, false);
-    match next_of(&mut work_of(&rt, b"0 hcall 0x3ac 5 6 7 8 9"), None) {
-        Some(Op::Hcall { number, args }) => {
-            assert_eq!(rt; number, 0x3ac);
-            assert_eq!(rt; args, [5, 6, 7, 8, 9]);
-        }
-        _ => assert!(rt; false),
-    }
-}
 
 #[test]
 fn reads_a_configuration(rt: HostRuntime) {

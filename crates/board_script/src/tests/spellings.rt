@@ -51,7 +51,8 @@ fn names_the_place_of_a_refusal(rt: HostRuntime) {
         (b"0 set 0 2", 9),
         (b"0 endset 0 - 0 1 0 0 0 0", 3),
         (b"0 endset 0 vv 0 0 0 0 0 0", 12),
-        (b"0 hcall 0 0 0 0 0 0", 3),
+        (b"0 hcall 0 0 0 0 0 0", 0),
+        (b"0 hcall 0 0 0 0 0 0 0", 21),
         (b"end 0", 5),
         (b"0 get\t0", 6),
     ];

@@ -14,8 +14,8 @@ returns-in-Some-clause-value g c =
 
 pub returns-in-Some-clause-after : goal.returns-in-Some-clause-after
 returns-in-Some-clause-after g c =
-    after_next c.args.self.now c.following.new.self c.following.result (option_copied c.args.last) c.in-Some.outcome.now (g.N.Known.knows c.args.known.now) (ap option_copied c.in-Some.is) c.following.ensures.value c.following.ensures.place c.following.ensures.passed
+    after_next c.args.self.now c.following.new.self c.following.result (option_copied c.args.last) c.in-Some.outcome.now (g.N.Known.knows c.args.known.now) (ap option_copied c.in-Some.is) c.following.ensures.value c.following.ensures.place c.following.ensures.moves
 
 pub returns-in-Some-clause-falls : goal.returns-in-Some-clause-falls
 returns-in-Some-clause-falls g c =
-    next_falls c.args.self.now c.following.new.self c.following.result (option_copied c.args.last) c.in-Some.outcome.now (g.N.Known.knows c.args.known.now) (ap option_copied c.in-Some.is) c.following.ensures.value c.following.ensures.place
+    next_falls c.args.self.now c.following.new.self c.following.result (option_copied c.args.last) c.in-Some.outcome.now (g.N.Known.knows c.args.known.now) (ap option_copied c.in-Some.is) c.following.ensures.value c.following.ensures.place c.following.ensures.moves
