@@ -23,6 +23,7 @@ use Rattle.xv_model.proofs.AcknowledgementLaws.{each_accepts_most_favoured, each
 use Rattle.xv_model.proofs.RouteLaws.{routed_in_order, once_forwarded, each_enters_once}
 use Rattle.xv_model.proofs.FewMessages.{quiet_is_quiet, takes_are_few, messages_are_few}
 use Rattle.xv_model.proofs.EscalationLaws.{undelivered_escalates, silent_escalates, escalation_runs}
+use Rattle.xv_model.proofs.HypercallLaws.{refused_does_nothing}
 use Rattle.account.specs.Account.{report_text, account_text}
 use Rattle.account.specs.text.Refusal.{too_long_line}
 use Rattle.machine.specs.Machine.{Held, StandsFor}
@@ -214,6 +215,7 @@ account_written a v t t' n meets r = record {
   undelivered_escalate = undelivered_escalates r.board r.account r.ran.1;
   silent_escalate = silent_escalates r.board r.account r.ran.1;
   escalations_run = escalation_runs r.board r.account r.ran.1;
+  refused_do_nothing = refused_does_nothing r.board r.account r.ran.1;
   written = appended t t' (account_text r.board r.account) n.gathered r.all r.tells;
 }
 

@@ -8,6 +8,8 @@ use Rattle.board_script.specs.declared.lines.Said.TheVariants as said
 use Rattle.board_script.specs.declared.lines.Said.{Said}
 use Rattle.board_script.specs.declared.stage.Stage.{Stage}
 use Rattle.board_script.specs.declared.stage.Stage.TheVariants.{Header, Work, Started, Ended}
+use Rattle.board_script.specs.declared.work.Work.{Work as AWork}
+use Rattle.board_script.specs.Lines.{IsWork, IsSaidAt}
 use Rattle.board_script.specs.Stage.{IsWorking, stage_after, board_after}
 use Rattle.board_script.proofs.Reading.{IsNotEnd}
 use Rattle.board_script.specs.Parser.{Parsing, board_by, whole_board}
@@ -34,6 +36,16 @@ whole_by Ended b c w e = absurd w
 
 pub whole_at : (p : Parsing) (b : Board) → IsWorking p.stage → p.board ≡ b → whole_board p ≡ Some b
 whole_at p b w e = whole_by p.stage b p.board w e
+
+-- a work line there is work on the board
+work_by : (stage : Stage) (b : Board) (actor : ℕ) (w : AWork) → IsWorking stage → IsSaidAt stage b (said.Work actor w) → IsWork b actor w
+work_by Work b actor w at fits = fits
+work_by Started b actor w at fits = fits
+work_by (Header turn) b actor w at fits = absurd at
+work_by Ended b actor w at fits = absurd at
+
+pub is_work : (a : Unread) (actor : ℕ) (w : AWork) → IsSaidAt a.parser.stage a.parser.board (said.Work actor w) → IsWorking a.parser.stage → IsWork a.parser.board actor w
+is_work a actor w fits at = work_by a.parser.stage a.parser.board actor w at fits
 
 -- a line that isn't the end leaves it there
 works_on : (stage : Stage) (it : Said) → IsWorking stage → IsNotEnd it → IsWorking (stage_after stage it)

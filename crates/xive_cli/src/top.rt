@@ -3,7 +3,8 @@
 ghost use Rattle.std.specs.Prelude.{ℕ, ◌≡◌, ◌≤◌, ◌↔◌, ◌⊎◌, [], List, Some, None};
 ghost use Rattle.std.specs.Io.KnownBytes.{Appends};
 ghost use Rattle.xv_io.specs.Faults.{HasRisen};
-ghost use Rattle.board_script.specs.Resting.{DrainsLeaveNothing, SettlesLeaveNoMessage, SyncsEndQuiet};
+ghost use Rattle.board_script.specs.Accepted.{EachAcceptedGoesOn, EachRefusedEnds};
+ghost use Rattle.board_script.specs.Resting.{DrainsLeaveNothing, ResetsAreAccepted, ResetsClearEnds, ResetsTurnOff, SettlesLeaveNoMessage, SyncCallsEndQuiet, SyncsEndQuiet};
 ghost use Rattle.board_script.specs.Script.{EachHasAccount, OneOfEach, script_of};
 ghost use Rattle.xive_cli.specs.Command.{command_of};
 ghost use Rattle.xive_cli.specs.Top.{IsBuilt};
@@ -56,10 +57,18 @@ pub fn run_top<S: Source, K: Sink>(
     ensures account { EachHasAccount }
     ensures one_account { OneOfEach }
 
-    // Lines that bring to rest do so.
+    // Lines that bring to rest do so, and those that reset turn sources off and clear ENDs.
     ensures settles { SettlesLeaveNoMessage }
     ensures syncs { SyncsEndQuiet }
+    ensures sync_calls { SyncCallsEndQuiet }
     ensures drains { DrainsLeaveNothing }
+    ensures resets { ResetsTurnOff }
+    ensures ends { ResetsClearEnds }
+    ensures reset_accepted { ResetsAreAccepted }
+
+    // A line goes on after a hypercall that is accepted, and ends with one that is refused.
+    ensures calls { EachAcceptedGoesOn }
+    ensures refused_calls { EachRefusedEnds }
     ensures source_count { S.faults source.old ≤ S.faults source.new }
     ensures sink_count { K.faults sink.old ≤ K.faults sink.new }
 {

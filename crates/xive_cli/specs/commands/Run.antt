@@ -17,6 +17,7 @@ use Rattle.xv_model.specs.laws.Escalations.{UndeliveredEscalates, SilentEscalate
 use Rattle.xv_model.specs.laws.Acknowledgements.{AcceptMostFavoured, AnswerAccepted, LeaveAlone, LeaveAll}
 use Rattle.xv_model.specs.laws.Pending.{HaveOneUser, AreUsers, AreKeptOff, AreInRing, AreShown, StayPending}
 use Rattle.xv_model.specs.laws.Queues.{ReadsNext, ReadsAsWritten}
+use Rattle.xv_model.specs.laws.Hypercalls.{RefusedDoNothing}
 use Rattle.account.specs.Account.{header_text, entries_text, account_text}
 use Rattle.account.specs.text.Refusal.{refusal_line, too_long_line}
 use Rattle.board_script.specs.declared.faults.ScriptFault.{ScriptFault}
@@ -52,7 +53,7 @@ status_of (Accepted b work) = status.Done
 status_of (Refused fault so_far) = status.Refused
 status_of (TooLong so_far) = status.TooLong
 
--- the known bytes are a script of a board and work lines, and what was appended is the text of that board and of an account that follows the lines and is legal from the board's start record; the forwards, triggers, coalesced triggers and routes of this account, its messages and what is quiet in it, what these write, what is read of it, what is pending and acknowledged in it, and what escalates, are as the laws say
+-- the known bytes are a script of a board and work lines, and what was appended is the text of that board and of an account that follows the lines and is legal from the board's start record; the forwards, triggers, coalesced triggers and routes of this account, its messages and what is quiet in it, what these write, what is read of it, what is pending and acknowledged in it, what escalates, and the hypercalls that are refused in it, are as the laws say
 pub record WritesAccount (bytes held held' : Option (List ℕ)) : Type 0 where
   pub board : Board
   pub work : List WorkLine
@@ -84,6 +85,7 @@ pub record WritesAccount (bytes held held' : Option (List ℕ)) : Type 0 where
   pub undelivered_escalate : UndeliveredEscalates board account
   pub silent_escalate : SilentEscalates board account
   pub escalations_run : EscalationRuns board account
+  pub refused_do_nothing : RefusedDoNothing board account
   pub written : Appends held held' (account_text board account)
 
 -- a line of the known bytes is refused, and what was appended is what the lines before it give, and the refusal

@@ -13,12 +13,14 @@ mod accounts;
 mod escalations;
 mod events;
 mod faults;
+mod hypercalls;
 mod levels;
 mod limits;
 mod pages;
 mod processors;
 mod queues;
 mod refusals;
+mod refused_calls;
 mod routes;
 mod words;
 
@@ -73,4 +75,57 @@ fn compare(
         assert_eq!(rt; status, want, "in pieces of {piece}");
     }
     Ok(())
+}
+
+/// A script by actor 0, and the account of it.
+#[derive(Drop)]
+struct Story {
+    script: String,
+    account: String,
+    entries: u64,
+}
+
+impl Story {
+    /// A script that has so far the lines of its header, here without that of its version.
+    fn new(alloc: Global, header: &str) -> Result<Story, Fail> {
+        Ok(Story {
+            script: format!(in alloc; "board 1\n{header}")?,
+            account: format!(in alloc; "xive-account 1\n{header}")?,
+            entries: 0,
+        })
+    }
+
+    /// The text of one more entry.
+    fn entry(&mut self, alloc: Global, op: &str, outcome: &str) -> Result<(), Fail> {
+        let text = format!(in alloc; "{} 0 {op} -> {outcome}\n", self.entries)?;
+        self.account.push_str(text.as_str())?;
+        self.entries = self.entries.saturating_add(1);
+        Ok(())
+    }
+
+    /// A line of one step.
+    fn step(&mut self, alloc: Global, line: &str, op: &str, outcome: &str) -> Result<(), Fail> {
+        self.script
+            .push_str(format!(in alloc; "0 {line}\n")?.as_str())?;
+        self.entry(alloc, op, outcome)
+    }
+
+    /// Lines that read as their steps do, each with its outcome.
+    fn steps(&mut self, alloc: Global, lines: &[(&str, &str)]) -> Result<(), Fail> {
+        for (line, outcome) in lines {
+            self.step(alloc, line, line, outcome)?;
+        }
+        Ok(())
+    }
+
+    /// Runs the script, and compares the account, whose report goes on so after its first line.
+    fn compare(&mut self, rt: &impl Abort, alloc: Global, report: &str) -> Result<(), Fail> {
+        let end = format!(in alloc; "end {}\n{report}", self.entries)?;
+        self.account.push_str(end.as_str())?;
+        let (status, sink) = run_script(alloc, self.script.as_bytes(), 4096, 1 << 16, NONE, NONE)?;
+        let script = self.script.as_str();
+        assert_eq!(rt; sink.held(), self.account.as_bytes(), "of {script}");
+        assert_eq!(rt; status, Status::Done, "of {script}");
+        Ok(())
+    }
 }

@@ -1,5 +1,6 @@
 use Rattle.std.proofs.Common.{refl, sym, ◌∙◌, subst, arith}
 use Rattle.xv_model.specs.declared.board.Board.{Board}
+use Rattle.xv_model.specs.board.Boards.{IsBoard}
 use Rattle.account.specs.Account.{header_text}
 use Rattle.board_script.specs.declared.lines.Said.TheVariants as said
 use Rattle.board_script.specs.Script.{WorkLine}
@@ -12,7 +13,7 @@ use Rattle.xive_cli.specs.Input.{unread}
 use Rattle.xive_cli.specs.Output.{told, Tells, Fails}
 use Rattle.xive_cli.specs.Reading.{Says}
 use Rattle.xive_cli.proofs.Stopping.{at_stop}
-use Rattle.xive_cli.proofs.Working.{whole_at, works_after, no_work, nothing_ran, nothing_more, line_ran, all_ran, header_failed, line_failed, work_stops}
+use Rattle.xive_cli.proofs.Working.{whole_at, is_work, works_after, no_work, nothing_ran, nothing_more, line_ran, all_ran, header_failed, line_failed, work_stops}
 use Rattle.xive_cli.proofs.work.run_work.Goals as goal
 
 pub returns-in_err-put_header-clause-stop : goal.returns-in_err-put_header-clause-stop
@@ -61,12 +62,13 @@ lines-preserved-in-Continue-branch-3 g c =
     let it = said.Work c.in-Work.actor c.in-Work.work in
     let says = subst (λ it. Says u it v) c.in-Work.is e.says in
     let works = works_after u v it says.next i.stage tt in
+    let is_board : IsBoard u.parser.board = subst IsBoard (c.board.ensures.value ∙ c.requires.board ∙ sym i.board) c.board.ensures.board in
     record {
       runs = line_ran c.args.input.now.parser.board (unread c.args.input.now) u v c.lines.machine c.run_line.new.machine (told c.args.output.now) (told c.lines.output) (told c.read_line.new.output) (told c.run_line.new.output) w i.runs says.next e.tells r.runs;
       stage = works.0;
       board = works.1 ∙ i.board;
       machine = c.run_line.ensures.board ∙ i.machine;
-      few = omega (arith, i.few, r.few, says.next.rises, few c.in-Work.work (burden_of c.lines.machine));
+      few = omega (arith, i.few, r.few, says.next.rises, is_board.sources, few c.in-Work.work (burden_of c.lines.machine) u.parser.board (is_work u c.in-Work.actor c.in-Work.work says.fits i.stage).valid_steps);
       source = c.read_line.ensures.source ∙ i.source;
       sink = c.run_line.ensures.sink ∙ c.read_line.ensures.sink ∙ i.sink;
       source_count = omega (arith, i.source_count, c.read_line.ensures.source_count);

@@ -1,7 +1,7 @@
 //! Processors: their contexts move on and off threads, priorities are presented to them wherever they are,
 //! and they acknowledge.
 
-use super::{NONE, compare, run_script};
+use super::{Story, compare};
 use std::alloc::Global;
 use std::process::Abort;
 use std::test::Fail;
@@ -83,16 +83,8 @@ fn moves_out_of_turn(rt: HostRuntime) -> Result<(), Fail> {
     )
 }
 
-/// A script by actor 0, and the account of it.
-#[derive(Drop)]
-struct Story {
-    script: String,
-    account: String,
-    entries: u64,
-}
-
 /// Two sources, whose ENDs notify processor 0 with the priorities 3 and 5.
-const SET_UP: [(&str, &str); 6] = [
+const SET_UP: &[(&str, &str)] = &[
     ("endset 3 vnb 0 3 0x0 0 0 0x0", "ok"),
     ("hcall 0x3ac 0x2 0x0 0x0 0x3 0x0", "code 0"),
     ("set 0 00", "01 00"),
@@ -101,35 +93,9 @@ const SET_UP: [(&str, &str); 6] = [
     ("set 1 00", "01 00"),
 ];
 
+const HEADER: &str = "sources 2\nprocessors 1\nthreads 2\nram 0\nactors 1\nesb 2 0\ngo\n";
+
 impl Story {
-    fn new(alloc: Global) -> Result<Story, Fail> {
-        let header = "sources 2\nprocessors 1\nthreads 2\nram 0\nactors 1\nesb 2 0\ngo\n";
-        let mut story = Story {
-            script: format!(in alloc; "board 1\n{header}")?,
-            account: format!(in alloc; "xive-account 1\n{header}")?,
-            entries: 0,
-        };
-        for (line, outcome) in &SET_UP {
-            story.step(alloc, line, line, outcome)?;
-        }
-        Ok(story)
-    }
-
-    /// The text of one more entry.
-    fn entry(&mut self, alloc: Global, op: &str, outcome: &str) -> Result<(), Fail> {
-        let text = format!(in alloc; "{} 0 {op} -> {outcome}\n", self.entries)?;
-        self.account.push_str(text.as_str())?;
-        self.entries = self.entries.saturating_add(1);
-        Ok(())
-    }
-
-    /// A line of one step.
-    fn step(&mut self, alloc: Global, line: &str, op: &str, outcome: &str) -> Result<(), Fail> {
-        self.script
-            .push_str(format!(in alloc; "0 {line}\n")?.as_str())?;
-        self.entry(alloc, op, outcome)
-    }
-
     /// A source fires, and its priority is presented.
     fn event(&mut self, alloc: Global, s: u32, priority: u32, on: bool) -> Result<(), Fail> {
         self.script
@@ -187,28 +153,24 @@ impl Story {
             format!(in alloc; "value {value}")?.as_str(),
         )
     }
+}
 
-    /// The report, where one or both of the sources fired and all was acknowledged.
-    fn report(&mut self, alloc: Global, both: bool, t: u32) -> Result<(), Fail> {
-        let end = format!(in alloc; "end {}\nsource 0 10 1 1\n", self.entries)?;
-        self.account.push_str(end.as_str())?;
-        self.account.push_str(if both {
-            "source 1 10 1 1\n"
-        } else {
-            "source 1 00 0 0\n"
-        })?;
-        self.account
-            .push_str("queue 3 vnb 0 0 00 00\nqueue 5 vnb 0 0 00 00\n")?;
-        let on = format!(in alloc; "processor 0 on {t} 0x0 0x0 0x0\n")?;
-        self.account.push_str(on.as_str())?;
-        self.account.push_str(if t == 0 {
-            "ring 0 0x0 0xff 0x0 0xff 0x80000400\nring 1 0x0 0x0 0x0 0xff 0x0\n"
-        } else {
-            "ring 0 0x0 0x0 0x0 0xff 0x0\nring 1 0x0 0xff 0x0 0xff 0x80000400\n"
-        })?;
-        self.account.push_str("flight 0\nnotices 0\ndone\n")?;
-        Ok(())
-    }
+/// The report behind its first line, where one or both of the sources fired and all was acknowledged.
+fn report(alloc: Global, both: bool, t: u32) -> Result<String, Fail> {
+    let second = if both { "10 1 1" } else { "00 0 0" };
+    let rings = if t == 0 {
+        "ring 0 0x0 0xff 0x0 0xff 0x80000400\nring 1 0x0 0x0 0x0 0xff 0x0\n"
+    } else {
+        "ring 0 0x0 0x0 0x0 0xff 0x0\nring 1 0x0 0xff 0x0 0xff 0x80000400\n"
+    };
+    let mut report = format!(in alloc;
+        "source 0 10 1 1\nsource 1 {second}\nqueue 3 vnb 0 0 00 00\nqueue 5 vnb 0 0 00 00\n"
+    )?;
+    let last = format!(in alloc;
+        "processor 0 on {t} 0x0 0x0 0x0\n{rings}flight 0\nnotices 0\ndone\n"
+    )?;
+    report.push_str(last.as_str())?;
+    Ok(report)
 }
 
 /// Puts the presentation of priority 3 before this move of the six, or behind them, and that of priority 5, if any.
@@ -220,7 +182,8 @@ fn play(
     second: Option<usize>,
     t: u32,
 ) -> Result<(), Fail> {
-    let mut story = Story::new(alloc)?;
+    let mut story = Story::new(alloc, HEADER)?;
+    story.steps(alloc, SET_UP)?;
     for place in 0..7 {
         let on = place == 2 || place == 6;
         if place == first {
@@ -238,15 +201,8 @@ fn play(
         story.acknowledge(alloc, t, "0x8005")?;
     }
     story.acknowledge(alloc, t, "0xff")?;
-    story.report(alloc, second.is_some(), t)?;
-    let (status, sink) = run_script(alloc, story.script.as_bytes(), 4096, 1 << 16, NONE, NONE)?;
-    assert_eq!(rt; status, Status::Done);
-    assert_eq!(rt;
-        sink.held(),
-        story.account.as_bytes(),
-        "{first} {second:?} {t}"
-    );
-    Ok(())
+    let report = report(alloc, second.is_some(), t)?;
+    story.compare(rt, alloc, report.as_str())
 }
 
 #[test]
