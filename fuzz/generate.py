@@ -1,6 +1,7 @@
 #!/usr/bin/env python3
 """Writes a random script that reaches far: queues that wrap, readers that lag, edges of memory, processors that are
-notified wherever their context is, moves out of turn, accesses beside what a thread's pages have, lines that are wrong.
+notified wherever their context is, moves out of turn, accesses beside what a thread's pages have, hypercalls at the
+border of each of their checks, lines that are wrong.
 
     fuzz/generate.py SEED                   the script of a seed, always the same one
     fuzz/generate.py deep                   one long script: a queue of 2 MiB wraps, and is read across the wrap
@@ -12,12 +13,14 @@ what one line may be is in `any_line`.
 import random
 import sys
 
-from model import COUNTS as HEADER_COUNTS, LINES, RANGES, Refused, Run
+from model import CALLS, COUNTS as HEADER_COUNTS, LINES, RANGES, Refused, Run
 
 TOP = 1 << 64
 PAYLOADS = (0, 1, 0x10, 0x7f, 0x80, 0xff, 0x100, 0xff00, 0x10000, 0x1020304, 0x7f000000, 0x40000000, 0x7ffffffe,
             0x7fffffff, 0x80000000, 0x80000001, 0xffffffff, 0x100000000, 0x1ffffffff, 0xdeadbeef12345678, TOP - 1)
 COUNTS = (1023, 1024, 1025, 1030, 1100, 1600, 2047, 2048, 2049, 2060, 2500, 3000, 3080)
+NO_CALLS = (0, 4, 0x3a0, 0x3a4, 0x3a7, 0x3a9, 0x3ad, 0x3c0, 0x3c0, 0x3c4, 0x3c4, 0x3c1, 0x3c9, 0x3d1, 0x3d4, 0x999,
+            0x13a8, (1 << 16) + 0x3b0, (1 << 32) + 0x3ac, (1 << 32) + 0x3d0, (1 << 63) + 0x3cc, TOP - 1)
 LAGS = (0, 0, 0, 1, 2, 5, 40, 511, 1022, 1023, 1023, 1024, 1024, 1025, 1026, 1500, 2047, 2048, 2049, 2050, 2600)
 ODD_BYTES = "\t\r\x00\x7f\x80\xff #"
 TELLING_BYTES = "  0179axX-#v~\x1f\x7f\t"
@@ -30,8 +33,10 @@ ODD_WORDS = """18446744073709551615 18446744073709551616 99999999999999999999 00
     - -- v e vqnbe qv vv vqs 00 01 11 000 2 3 4 7 8 9 12 13 16 21 24 0xff 0x100 255 256 0xffff 0x10000 65536 0xffffffff
     0x100000000 level end go # 0# trigger""".split()
 ODD_LINES = """start; end 0; END; end now; go; board 1; sources 1; unclaimed 0 0; level 0 0; unconnected 0 0; 0; 0 end
-    0 go; 0 hcall 0x3b8 1 0 0 0x1000 12; 0 hcall 0x3a8 0 0 0 0 0; 0 unconnected 0 0; 0 hcall 0x3cc 0 0 0 0 0
-    0 hcall 0x3ac 0 0 0 0; 0 hcall 0x3ac 0 0 0 0 0 0; 0 hcall 0x300003ac 0 0 0 0 0; 0 Read 0; 0 read; 0 read 0 0
+    0 go; 0 hcall 0x3b8 1 0 0 0x1000; 0 hcall 0x3a8; 0 unconnected 0 0; 0 hcall 0x3cc 0 0 0 0; 0 hcall; 0 hcall -1
+    0 hcall 0x3ac 0 0 0 0; 0 hcall 0x3ac 0 0 0 0 0 0; 0 hcall 0x3d0 0 0 0 0 0 0; 0 hcall 0x3ac 0 0 0 0 0x
+    0 hcall H 0 0 0 0 0; 0 hcall 0x999 0 0 0 0; 0 Hcall 0x3d0 0 0 0 0 0; hcall 0x3d0 0 0 0 0 0
+    0 Read 0; 0 read; 0 read 0 0
     0 peek; 0 peek 0 0; 0 zero 0; 0 zero 0 0 0; 0 reads 0; 0 peak 0; read 0; peek 0; zero 0 4; 0 read 0x; 0 peek -4
     0 zero 0 -4; 0 peek 18446744073709551616; 0 zero 0 0x10000000000000000; 0 read 4294967296
     0 endset 0 v 0 0 0 0 7 0
@@ -39,7 +44,7 @@ ODD_LINES = """start; end 0; END; end now; go; board 1; sources 1; unclaimed 0 0
     0 endset 0 - 0 1 0 0 0 0; 0 endset 0 - 0 0 0x1000 0 0 0; 0 endset 0 vq 0 0 0 4294967308 0 0; 0 raise 0; 0 lower 0
     0 endset 0 v 0 8 0 0 0 0; 0 assert 0; 0 init 0 1; 0 load 0 1 0; 0 endload 0 2 0; 0 peek 000000000000000000000
     0 tload 0 2 0x810 2; 0 tload 0 1 0x818 4; 0 tload 0 2 0x10 8; 0 tload 0 0 0x10 8; 0 tstore 0 2 0x11 1 4
-    0 tstore 0 1 0x18 4 0x80000400; 0 tstore 0 2 0x812 1 0; 0 reset; 0 migrate; 0 start
+    0 tstore 0 1 0x18 4 0x80000400; 0 tstore 0 2 0x812 1 0; 0 reset 0; 0 resets; reset; 0 migrate; 0 start
     0 kvmset 3 0 0; 0 kvmeq 0 1 12 0x1000 1 0; 0 kvmget 4 0; 0 vpget 0; 0 vpset 0 0xff 0; 0 escalate 0; 0 present 0 0
     0 settle 0; 0 settle 1; settle; 0 Settle; 0 settles; 0 take; 0 take 0 0; 0 take -1; 0 take 4294967296; take 0
     0 take 0x100000000; 0 takes 0; 0 connect; 0 connect 0 0; 0 disconnect 0; 0 restore 0; 0 restore 0 0 0; 0 restore
@@ -115,8 +120,9 @@ class Script:
 
     # -- the board
 
-    def header(self, fewest_mib=0, crowd=False):
-        """With a crowd there are more processors and threads, and more often some that aren't connected."""
+    def header(self, fewest_mib=0, crowd=False, gaps=False):
+        """With a crowd there are more processors and threads, and more often some that aren't connected; with gaps
+        there are more often sources that aren't claimed."""
         pick = self.random
         sources = pick.choice((1, 2, 2, 3, 4))
         processors = pick.choice((1, 2, 2, 2, 3, 3, 4, 5, 64) if crowd else (1, 1, 2))
@@ -128,7 +134,8 @@ class Script:
         self.say("ram", max(fewest_mib, mib))
         self.say("actors", pick.choice((1, 2, 3)))
         self.say("esb", pick.choice((1, 2)), pick.choice((0, 1)))
-        for name, numbers, chances in (("level", sources, (0, 0, 1, 1, 2)), ("unclaimed", sources, (0, 0, 0, 0, 0, 1)),
+        for name, numbers, chances in (("level", sources, (0, 0, 1, 1, 2)),
+                                       ("unclaimed", sources, (0, 0, 0, 0, 0, 1) + (1,) * 6 * gaps),
                                        ("unconnected", processors, (0, 0, 1, 1, 2) if crowd else (0,) * 15 + (1,))):
             for _ in range(pick.choice(chances)):
                 first = pick.randrange(numbers)
@@ -254,6 +261,79 @@ class Script:
         self.work("hcall", 0x3ac, flags, s, target, priority, payload)
         if priority == 0xff and pick.randrange(2):
             self.work("hcall", 0x3ac, 0, s, target, e % 8, payload)  # no longer masked; the payload stays 0
+
+    def call(self, number=None):
+        """A hypercall, often with an argument or two at the border of a check, and what shows its effect."""
+        pick = self.random
+        number = number or pick.choice((*CALLS, *CALLS, 0x3b8, 0x3b8, 0x3c8, pick.choice(NO_CALLS)))
+        names = CALLS[number].names.split() if number in CALLS else []
+        given = dict(zip(names, self.good_arguments(number, names)))
+        for name in pick.sample(names, min(len(names), pick.choice((0, 0, 0, 0, 1, 1, 1, 2, 2, 3)))):
+            given[name] = pick.choice(self.border(name, given))
+        ignored = [pick.choice((0, 0, 0, 1, 0xff, TOP - 1)) for _ in range(5 - len(names))]
+        self.work("hcall", number, *given.values(), *ignored)
+        if pick.randrange(2):
+            self.ask(given)
+
+    def good_arguments(self, number, names):
+        """Values with which the call is accepted, mostly."""
+        pick = self.random
+        e = self.target() if pick.randrange(4) else 8 * self.processor() + pick.randrange(7)
+        size = pick.choice((12, 12, 12, 12, 16, 21, 24, 0))
+        address = pick.choice((0, self.home, self.home, max(0, self.size - (1 << size)))) >> size << size
+        flags = {0x3ac: (0, 1, 2, 2, 2, 3), 0x3b8: (0, 1), 0x3bc: (0, 1, 1), 0x3c8: (0, 1)}.get(number, (0,))
+        offset = pick.choice((0, 0x3ff, 0x400, 0x7ff, 0x800, 0xbff, 0xc00, 0xc00, 0xd00, 0xe00, 0xf00, 0xfff, 0x1000,
+                              0xffff, pick.randrange(0x10000)))
+        good = {"flags": pick.choice(flags), "lisn": self.source(), "target": e // 8, "priority": e % 8, "size": size,
+                "address": address, "eisn": pick.choice(PAYLOADS), "offset": offset}
+        return [good[name] for name in names]
+
+    def border(self, name, given):
+        """Values on both sides of what a check asks of an argument, or that are good where they are cut."""
+        good, sources, processors = given[name], self.machine.sources, self.machine.processors
+        high = ((1 << 32) + good, (1 << 63) + good, (1 << 16) + good, TOP - 1)
+        whole = 1 << min(given.get("size", 0), 32)
+        return {
+            "flags": (1, 2, 3, 4, 4, 5, 8, 0x10, *high),
+            "lisn": (*[s for s, source in enumerate(sources) if not source.valid] * 4,
+                     len(sources) - 1, *(len(sources),) * 3, len(sources) + 1, *high),
+            "target": (*[v for v, processor in enumerate(processors) if not processor.connected] * 2,
+                       len(processors) - 1, *(len(processors),) * 3, len(processors) + 1, *high),
+            "priority": (5, 6, 6, 7, 7, 7, 8, 0x80, 0xff, 0xff, 0xff, 0x100, 0x1ff, *high),
+            "size": (0, 0, 1, 2, 11, 13, 13, 14, 15, 16, 17, 20, 21, 22, 23, 24, 25, 28, 32, 64, 76, 0x10c, *high),
+            "address": (self.size, self.size, self.size - whole, self.size - whole // 2, self.size - whole + 4, 4,
+                        whole // 2, whole + 1, good + 4, good + 0x800, 0x1000, 0x10000, 0x200000, TOP - whole, *high),
+            "eisn": PAYLOADS,
+            "offset": (0xffff, *(0x10000,) * 4, 0x10001, 0x10c00, 0x20000, *high),
+        }[name]
+
+    def ask(self, given):
+        """The get of what was named, or else of anything."""
+        pick = self.random
+        queue = "target" in given if pick.randrange(8) else pick.randrange(2)
+        target, priority = given.get("target", self.processor()), given.get("priority", pick.randrange(7))
+        if queue and "lisn" not in given:
+            self.work("hcall", 0x3bc, pick.choice((0, 1, 1)), target, priority, 0, 0)
+        else:
+            self.work("hcall", 0x3b0, 0, given.get("lisn", self.source()), 0, 0, 0)
+
+    def ask_queue(self, e):
+        self.work("hcall", 0x3bc, self.random.choice((0, 1, 1, 1)), e // 8, e % 8, 0, 0)
+
+    def reset(self):
+        """A reset, what it left, and mostly a board that works again then."""
+        pick = self.random
+        written = [end.place(max(0, end.written - 1)) for end in self.queues()]
+        self.work(*pick.choice((("reset",), ("hcall", 0x3d0, 0, 0, 0, 0, 0), ("hcall", 0x3d0, 0, *[TOP - 1] * 4))))
+        for address in written[:2]:
+            self.work("peek", address)
+        s, e = self.source(), self.target()
+        self.work("hcall", 0x3b0, 0, s, 0, 0, 0)
+        self.ask_queue(e)
+        if pick.randrange(4):
+            self.configure(e)
+            self.assign(s, e)
+            self.switch_on(s)
 
     def event(self, s=None):
         """What makes a source forward, mostly with its route."""
@@ -445,7 +525,17 @@ class Script:
         pick = self.random
         moving = [message.end for message in self.machine.flight]
         e = pick.choice(moving) if moving and pick.randrange(4) else self.end()
+        if pick.randrange(4) == 0:
+            return self.change_by_call(e)
         self.configure(e, pick.choice(("vnb", "vnb", "vn", "vn", "vb", "v", "vqn", "vq", "-")), 12)
+
+    def change_by_call(self, e):
+        """The same by the hypercall: the END has no more than a queue then, or is reset; at times all are."""
+        pick = self.random
+        if pick.randrange(8) == 0:
+            return self.work("reset")
+        size = pick.choice((12, 0, 0))
+        self.work("hcall", 0x3b8, pick.choice((0, 1)), e // 8, e % 8, self.home, size)
 
     def wrong_end(self):
         """At a rule of the letters e, u and s, or beyond it."""
@@ -489,7 +579,8 @@ class Script:
         lines = ((self.event, 29), (self.read, 25), (self.raw, 8), (self.peek, 8), (self.zero, 6), (self.assign, 5),
                  (self.configure, 5), (self.access, 8), (self.reopen, 2), (self.move, 4), (self.take, 3),
                  (self.ring, 3), (self.remark, 4), (self.relay, 4), (self.reopen_either, 3), (self.owe, 3),
-                 (self.quiet, 4), (self.settle_all, 2), (self.ring_page, 3), (self.start, 1))
+                 (self.quiet, 4), (self.settle_all, 2), (self.ring_page, 3), (self.start, 1), (self.call, 10),
+                 (self.reset, 1))
         self.choose(lines)()
 
     def choose(self, weighted):
@@ -564,11 +655,14 @@ class Script:
         every = pick.choice((1, 1, 1, 2, 7, 100, 1024, 9999))
         self.burst(e, sources, pick.choice(counts), pick.choice(lags), every, pick.randrange(3))
         self.plain = False
+        self.ask_queue(e)
         for _ in range(pick.choice((0, 5, 5, 60, 1030, 1300))):
             self.read(e)
         for _ in range(pick.choice((0, 1, 3, 30))):
             self.event(pick.choice(sources))
             self.read(e)
+            if pick.randrange(4) == 0:
+                self.ask_queue(e)
         self.mix(pick.choice((10, 60)))
 
     # -- scenes
@@ -651,6 +745,8 @@ class Script:
         weights = self.random.choice(((6, 4, 2, 8), (6, 6, 2, 4), (2, 6, 2, 8), (9, 3, 3, 3)))
         for _ in range(self.random.choice((20, 60, 60, 200))):
             self.choose(tuple(zip((self.move, self.notify, self.take, self.ring), weights)))()
+        if self.random.randrange(4) == 0:
+            self.reset()
         self.mix(self.random.choice((0, 10)))
 
     def windows(self):
@@ -755,6 +851,17 @@ class Script:
             if pick.randrange(2):
                 self.settle_all()
         self.mix(pick.choice((0, 10)))
+
+    def called(self):
+        """Hypercalls, and events that go as they say."""
+        pick = self.random
+        self.header(pick.randrange(2), crowd=pick.randrange(2) == 1, gaps=True)
+        if pick.randrange(4):
+            self.set_up(pick.choice(("vq", "vqb", "vqn", None)))
+        weights = pick.choice(((12, 2, 1, 1, 1, 1, 1), (9, 4, 2, 2, 1, 1, 2), (5, 5, 3, 3, 2, 2, 3)))
+        lines = self.call, self.event, self.owe, self.read, self.move, self.reset, self.settle_all
+        for _ in range(pick.choice((6, 10, 10, 20, 60))):
+            self.choose(tuple(zip(lines, weights)))()
 
     # -- scenes with lines that are wrong
 
@@ -867,8 +974,8 @@ class Script:
         """A line of any word, mostly one that is right; it is only made, and not done."""
         pick = self.random
         name = pick.choices(list(LINES), [len(forms) + 2 for forms in LINES.values()])[0]
-        if name == "endset" and pick.randrange(8):
-            return self.only_made(self.configure)
+        if name in ("endset", "hcall") and pick.randrange(8):
+            return self.only_made({"endset": self.configure, "hcall": self.call}[name])
         level = [s for s in range(self.count) if self.machine.sources[s].level]
         words = []
         for form in LINES[name]:
@@ -882,7 +989,7 @@ class Script:
             elif form == "S" and level and name in ("raise", "lower", "assert", "init") and pick.randrange(8):
                 words.append(pick.choice(level))
             elif name == "hcall" and not words:
-                words.append(pick.choice((0x3ac, 0x3ac, 0x3a8, 0x3d0, 0x13ac, (1 << 32) + 0x3ac, 0, TOP - 1)))
+                words.append(pick.choice((*CALLS, *NO_CALLS)))
             else:
                 most = (1 << 8 * size) - 1 if form == "VALUE" else self.machine.most[form]
                 words.append(pick.choice((0, most, pick.randrange(most + 1), pick.randrange(min(most, 7) + 1))))
@@ -984,10 +1091,15 @@ class Script:
         return text.replace("\n", " ").encode("latin-1")
 
     def wrong_rule(self):
-        """An END at a limit that its letters and numbers have together, or a word that a message source has not."""
+        """An END at a limit that its letters and numbers have together, a word that a message source has not, a pair
+        that is a number, or a processor that the board lacks."""
         pick = self.random
-        what = pick.randrange(4)
-        if what == 0:
+        what = pick.randrange(6)
+        if what == 5:
+            self.work("set", self.source(), pick.choice(("0", "1", "2", "3", "000", "0x0")))
+        elif what == 4:
+            self.work(pick.choice(("vpget", "vpget", "connect", "save")), len(self.processors) + pick.randrange(2))
+        elif what == 0:
             self.work("endset", self.end(), pick.choice(("v", "vn", "vb")), self.processor(),
                       pick.choice((7, 8, 8, 9, 0xff, 0x100)), 0, 0, 0, 0)
         else:
@@ -1114,7 +1226,7 @@ class Script:
                   (self.edges, 14), (self.one_page, 9), (self.reconfigured, 9), (self.contexts, 56),
                   (self.windows, 20), (self.drained_bus, 3), (self.refused, 130), (self.refused_header, 50),
                   (self.escalating, 75), (self.changed_in_flight, 55), (self.outstanding, 40),
-                  (self.refused_escalation, 70), (self.ring_pages, 40), (self.wrong_lines, 1500),
+                  (self.refused_escalation, 70), (self.ring_pages, 40), (self.called, 400), (self.wrong_lines, 1500),
                   (self.wrong_header_line, 340), (self.cut, 50))
         self.choose(scenes)()
         if self.ending is not None:

@@ -8,11 +8,13 @@
 import re
 import sys
 from collections import namedtuple
+from types import SimpleNamespace
 
 MOST_BYTES = 16777216
 MOST_IN_A_LINE = 256
 MOST_RANGES = 16
 MOST_IN_FLIGHT = 4096
+QUEUE_SHIFTS = (12, 16, 21, 24)
 
 # ---- words -----------------------------------------------------------------------------------------------------------
 
@@ -137,6 +139,10 @@ class Memory:
     def fits(self, address, length):
         return address % 4 == 0 and length % 4 == 0 and address + length <= self.size
 
+    def holds_queue(self, address, shift):
+        """The queue is aligned and lies within the memory."""
+        return address % (1 << shift) == 0 and address + (1 << shift) <= self.size
+
     def word(self, address):
         return int.from_bytes(self.bytes[address:address + 4], "big")
 
@@ -157,9 +163,11 @@ class Source:
         self.forwards = 0
         self.routes = 0
         self.valid = claimed
-        self.masked = True
-        self.end = 0
-        self.payload = 0
+        self.clear()
+
+    def clear(self):
+        """Its EAS is as at the start, but for whether it is valid."""
+        self.masked, self.end, self.payload = True, 0, 0
 
     def outstanding(self):
         return self.forwards - self.routes
@@ -182,6 +190,10 @@ class Source:
 
 class End:
     def __init__(self):
+        self.reset()
+
+    def reset(self):
+        """Not valid, and all else 0."""
         self.configure("-", 0, 0, 0, 0, 0, 0)
 
     def configure(self, flags, v, priority, address, shift, escalation, payload):
@@ -345,6 +357,167 @@ class Board:
         return lines + ["go"]
 
 
+# ---- hypercalls ------------------------------------------------------------------------------------------------------
+
+H_SUCCESS, H_FUNCTION, H_PARAMETER, H_P2, H_P3, H_P4, H_P5 = 0, -2, -4, -55, -56, -57, -58
+NO_PAGE = (1 << 64) - 1
+PAGE_SHIFT = 16
+PAGE = 1 << PAGE_SHIFT
+# Where the pages lie; each source has room for two, and each END has two.
+SOURCE_PAGES = 0x6010000000000
+END_PAGES = 0x6020000000000
+
+# A check looks at the arguments that a call names. It answers the code with which the call ends, or None where the next
+# check is to be made; H_SUCCESS goes to the effect at once. No argument is cut.
+
+
+def only_flags(known):
+    return lambda machine, given: H_PARAMETER if given.flags & ~known else None
+
+
+def a_source(machine, given):
+    good = given.lisn < len(machine.sources) and machine.sources[given.lisn].valid
+    return None if good else H_P2
+
+
+def a_mask(_machine, given):
+    return H_SUCCESS if given.priority == 0xff else None
+
+
+def a_priority(code):
+    return lambda machine, given: None if given.priority <= 6 else code
+
+
+def a_target(code):
+    def check(machine, given):
+        good = given.target < len(machine.processors) and machine.processors[given.target].connected
+        return None if good else code
+    return check
+
+
+def a_size(_machine, given):
+    """With size 0 there is no queue, so its address isn't looked at."""
+    if given.size == 0:
+        return H_SUCCESS
+    return None if given.size in QUEUE_SHIFTS else H_P5
+
+
+def an_address(machine, given):
+    return None if machine.memory.holds_queue(given.address, given.size) else H_P4
+
+
+def an_offset(_machine, given):
+    return None if given.offset < PAGE else H_P3
+
+
+# An effect changes the machine, or answers the outputs.
+
+
+def source_info(machine, given):
+    level, one_page = machine.sources[given.lisn].level, machine.pages == 1
+    flags = (1 if machine.store_eoi else 0) | (2 if one_page else 0) | (4 | 8 if level else 0)
+    first = SOURCE_PAGES + given.lisn * 2 * PAGE
+    management, trigger = (first, NO_PAGE) if one_page else (first + PAGE, first)
+    if level:
+        management = trigger = NO_PAGE
+    return flags, management, trigger, PAGE_SHIFT
+
+
+def set_source(machine, given):
+    source = machine.sources[given.lisn]
+    if given.priority == 0xff:
+        source.clear()
+        return
+    source.end = 8 * given.target + given.priority
+    source.masked = given.flags & 1 != 0
+    if given.flags & 2:
+        source.payload = given.eisn & 0x7fffffff
+
+
+def get_source(machine, given):
+    """It answers by the number of the END, whatever that END is told."""
+    source = machine.sources[given.lisn]
+    return source.end // 8, 0xff if source.masked else source.end % 8, source.payload
+
+
+def queue_info(_machine, given):
+    return END_PAGES + (8 * given.target + given.priority) * 2 * PAGE, PAGE_SHIFT
+
+
+def set_queue(machine, given):
+    end = machine.ends[8 * given.target + given.priority]
+    if given.size == 0:
+        end.reset()
+        return
+    flags = "vqnb" if given.flags & 1 else "vqb"
+    end.configure(flags, given.target, given.priority, given.address, given.size, 0, 0)
+
+
+def get_queue(machine, given):
+    """With flag 1 also where the next entry will be written, and with which generation."""
+    end = machine.ends[8 * given.target + given.priority]
+    flags, index = 1 if "n" in end.flags else 0, 0
+    if given.flags & 1 and "q" in end.flags:
+        flags |= end.generation(end.written) << 62
+        index = end.written % end.entries()
+    return flags, end.address, end.shift, index
+
+
+def reset_all(machine, _given):
+    """EASes that aren't valid stay so; what is on its way, memory and processors stay as they are."""
+    for source in machine.sources:
+        if source.valid:
+            source.clear()
+    for end in machine.ends:
+        end.reset()
+
+
+def nothing(_machine, _given):
+    pass
+
+
+# What a line does behind a call that was accepted.
+
+
+def accesses(machine, given):
+    """The management page is the last one."""
+    access = machine.line_store if given.flags & 1 else machine.line_load
+    access(given.lisn, machine.pages - 1, given.offset)
+
+
+def syncs(machine, given):
+    machine.line_sync(given.lisn)
+
+
+def switches_off(machine, _given):
+    for s, source in enumerate(machine.sources):
+        if source.valid:
+            machine.line_set(s, "01")
+
+
+# The names of the arguments that count, the checks in their order, the effect, and what the line goes on with.
+Call = namedtuple("Call", "names checks effect goes_on", defaults=(nothing,))
+CALLS = {
+    0x3a8: Call("flags lisn", (only_flags(0), a_source), source_info),
+    0x3ac: Call("flags lisn target priority eisn",
+                (only_flags(3), a_source, a_mask, a_priority(H_P4), a_target(H_P3)), set_source),
+    0x3b0: Call("flags lisn", (only_flags(0), a_source), get_source),
+    0x3b4: Call("flags target priority", (only_flags(0), a_priority(H_P3), a_target(H_P2)), queue_info),
+    0x3b8: Call("flags target priority address size",
+                (only_flags(1), a_priority(H_P3), a_target(H_P2), a_size, an_address), set_queue),
+    0x3bc: Call("flags target priority", (only_flags(1), a_priority(H_P3), a_target(H_P2)), get_queue),
+    0x3c8: Call("flags lisn offset", (only_flags(1), a_source, an_offset), nothing, accesses),
+    0x3cc: Call("flags lisn", (only_flags(0), a_source), nothing, syncs),
+    0x3d0: Call("flags", (only_flags(0),), reset_all, switches_off),
+}
+
+
+def code_of(machine, call, given):
+    """That of the first check that doesn't let the next one be made."""
+    codes = (check(machine, given) for check in call.checks)
+    return next((code for code in codes if code is not None), H_SUCCESS)
+
+
 # ---- the machine -----------------------------------------------------------------------------------------------------
 
 # The work lines without their ACTOR. Of each the word, and the forms of the words behind it: N is any number, and I one
@@ -356,8 +529,8 @@ LINES = {line.split()[0]: line.split()[1:] for line in (
     "tstore T RING-PAGE OFFSET SIZE VALUE", "hcall N N N N N N", "kvmset I N N", "kvmeq N I I N I I", "kvmget I N",
     "vpget V", "vpset V BYTE BYTE", "read E", "peek N", "zero N N", "fire S", "finish S", "assert S", "settle", "drain",
     "sync S", "cppr T BYTE", "ack T", "inject T BYTE", "regs T", "push T V", "pull T", "reset", "migrate")}
-# In the language, but not built; so is `hcall` with another number than 0x3ac.
-NOT_BUILT = ("kvmset", "kvmeq", "kvmget", "vpget", "vpset", "reset", "migrate")
+# In the language, but not built.
+NOT_BUILT = ("kvmset", "kvmeq", "kvmget", "vpget", "vpset", "migrate")
 
 
 def is_among(n, ranges):
@@ -421,9 +594,7 @@ class Machine:
             return None if self.sources[fields[0]].level else "not-level"
         if name == "endset":
             return None if self.takes_end(*fields) else "bad-end"
-        if name in NOT_BUILT or name == "hcall" and fields[0] != 0x3ac:
-            return "not-built"
-        return None
+        return "not-built" if name in NOT_BUILT else None
 
     def entry(self, operation, outcome):
         self.out.append(f"{self.count} {self.actor} {operation} -> {outcome}")
@@ -505,31 +676,25 @@ class Machine:
     def line_endstore(self, e, page, offset):
         self.entry(f"endstore {e} {page} {offset:#x}", "bad-offset")
 
-    # -- EASes and configurations
+    # -- hypercalls and configurations
 
-    def line_hcall(self, call, *arguments):
-        shown = " ".join(hex(argument) for argument in (call, *arguments))
-        self.entry(f"hcall {shown}", f"code {self.set_source_config(*arguments)}")
+    def line_hcall(self, number, *arguments):
+        """Numbers that are no call's are answered too; arguments that a call doesn't name are shown alone."""
+        shown = " ".join(hex(argument) for argument in (number, *arguments))
+        call = CALLS.get(number)
+        if call is None:
+            return self.entry(f"hcall {shown}", f"code {H_FUNCTION}")
+        given = SimpleNamespace(**dict(zip(call.names.split(), arguments)))
+        code = code_of(self, call, given)
+        outputs = ()
+        if code == H_SUCCESS:
+            outputs = call.effect(self, given) or ()
+        self.entry(f"hcall {shown}", " ".join((f"code {code}", *map(hex, outputs))))
+        if code == H_SUCCESS:
+            call.goes_on(self, given)
 
-    def set_source_config(self, flags, s, target, priority, payload):
-        """The first of these that holds is the code; a code other than 0 changes nothing."""
-        if flags > 3:
-            return -4
-        if s >= len(self.sources) or not self.sources[s].valid:
-            return -55
-        source = self.sources[s]
-        if priority == 0xff:
-            source.masked, source.end, source.payload = True, 0, 0
-            return 0
-        if priority > 6:
-            return -57
-        if target >= len(self.processors) or not self.processors[target].connected:
-            return -56
-        source.end = 8 * target + priority
-        source.masked = flags & 1 != 0
-        if flags & 2:
-            source.payload = payload & 0x7fffffff
-        return 0
+    def line_reset(self):
+        self.line_hcall(0x3d0, 0, 0, 0, 0, 0)
 
     def line_endset(self, e, flags, v, priority, address, shift, escalation, payload):
         self.ends[e].configure(flags, v, priority, address, shift, escalation, payload)
@@ -543,10 +708,10 @@ class Machine:
                 self.takes_escalation(e, flags, escalation, payload))
 
     def takes_queue(self, flags, address, shift):
-        """The queue is aligned and lies within the memory; without q the numbers are 0."""
+        """Without q the numbers are 0."""
         if "q" not in flags:
             return address == 0 and shift == 0
-        return shift in (12, 16, 21, 24) and address % (1 << shift) == 0 and address + (1 << shift) <= self.memory.size
+        return shift in QUEUE_SHIFTS and self.memory.holds_queue(address, shift)
 
     @staticmethod
     def takes_escalation(e, flags, escalation, payload):
