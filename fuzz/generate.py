@@ -8,19 +8,23 @@ border of each of their checks, lines that are wrong.
 
 A script is given to the model while it is made, so that the generator knows pairs and places. Besides that it has the
 words of lines and their ranges from the model, to make lines that are wrong by one thing. A scene makes a whole script;
-what one line may be is in `any_line`.
+what one line may be is in `any_line`. Only where the whole language is built (FUZZ_WHOLE, see model.py) are there lines
+of the KVM device and migrations among them.
 """
 import random
 import sys
 
-from model import CALLS, COUNTS as HEADER_COUNTS, LINES, RANGES, Refused, Run
+from model import CALLS, COUNTS as HEADER_COUNTS, LINES, NOT_BUILT, RANGES, Refused, Run
 
+WHOLE = not NOT_BUILT
 TOP = 1 << 64
 PAYLOADS = (0, 1, 0x10, 0x7f, 0x80, 0xff, 0x100, 0xff00, 0x10000, 0x1020304, 0x7f000000, 0x40000000, 0x7ffffffe,
             0x7fffffff, 0x80000000, 0x80000001, 0xffffffff, 0x100000000, 0x1ffffffff, 0xdeadbeef12345678, TOP - 1)
 COUNTS = (1023, 1024, 1025, 1030, 1100, 1600, 2047, 2048, 2049, 2060, 2500, 3000, 3080)
 NO_CALLS = (0, 4, 0x3a0, 0x3a4, 0x3a7, 0x3a9, 0x3ad, 0x3c0, 0x3c0, 0x3c4, 0x3c4, 0x3c1, 0x3c9, 0x3d1, 0x3d4, 0x999,
             0x13a8, (1 << 16) + 0x3b0, (1 << 32) + 0x3ac, (1 << 32) + 0x3d0, (1 << 63) + 0x3cc, TOP - 1)
+NO_ATTRIBUTES = (0, 6, 7, 8, 9, 0x102, 0x104, 1 << 16 | 3, 1 << 31, (1 << 32) - 1)
+NO_CONTROLS = (0, 4, 5, 0x101, 1 << 32 | 1, 1 << 32 | 2, 1 << 32 | 3, 1 << 63 | 2, TOP - 1)
 LAGS = (0, 0, 0, 1, 2, 5, 40, 511, 1022, 1023, 1023, 1024, 1024, 1025, 1026, 1500, 2047, 2048, 2049, 2050, 2600)
 ODD_BYTES = "\t\r\x00\x7f\x80\xff #"
 TELLING_BYTES = "  0179axX-#v~\x1f\x7f\t"
@@ -51,7 +55,14 @@ ODD_LINES = """start; end 0; END; end now; go; board 1; sources 1; unclaimed 0 0
     0 save; 0 save 0 0; 0 push 0; 0 push 0 0 0; 0 push 0 0x80000400; 0 push 0 0x400; 0 push; 0 pull; 0 pull 0 0
     0 pull 0 0 0; 0 cppr 0; 0 cppr 0 0 0; 0 cppr 0 0x100; 0 cppr 0 256; 0 cppr 0 -1; 0 ack; 0 ack 0 0; 0 ack 0 0 0
     0 inject 0; 0 inject 0 0 0; 0 inject 0 256; 0 inject 0 0x100; 0 regs; 0 regs 0 0; 0 reg 0; 0 ring 0; 0 ipb 0 0"""
-ODD_LINES = [line.strip() for line in ODD_LINES.replace("\n", ";").split(";")]
+ODD_KVM_LINES = """; 0 kvmset; 0 kvmset 3; 0 kvmset 3 0; 0 kvmset 3 0 0 0; 0 kvmset -1 0 0; 0 kvmset 4294967296 0 0
+    0 kvmset 3 0 18446744073709551616; 0 kvmset 4 0 1 12 0x1000 1 0; kvmset 3 0 0; 0 kvmseq 0 1 12 0x1000 1 0
+    0 kvmeq 0 1 12 0x1000 1; 0 kvmeq 0 1 12 0x1000 1 0 0; 0 kvmeq 0 vqnb 12 0x1000 1 0
+    0 kvmeq 0 1 12 0x1000 1 4294967296; 0 kvmeq 0 1 12 0x1000 4294967296 0; 0 kvmeq 0 1 4294967308 0x1000 1 0
+    0 kvmeq 0 4294967297 12 0x1000 1 0; 0 kvmget; 0 kvmget 4; 0 kvmget 4 0 0; 0 kvmget 4294967300 0; 0 vpget
+    0 vpget 0 0; 0 vpget 64; 0 vpset 0; 0 vpset 0 0; 0 vpset 0 256 0; 0 vpset 0 0 256; 0 vpset 0 0 0 0
+    0 vpset 64 0 0; 0 migrate 0; 0 Migrate; migrate; 0 migrates"""
+ODD_LINES = [line.strip() for line in (ODD_LINES + ODD_KVM_LINES * WHOLE).replace("\n", ";").split(";")]
 
 
 ODD_ESCALATION_LINES = """0 quiet; 0 quiet 0 0; 0 quiet -1; 0 quiet 8192; 0 Quiet 0; 0 quite 0; quiet 0
@@ -120,9 +131,9 @@ class Script:
 
     # -- the board
 
-    def header(self, fewest_mib=0, crowd=False, gaps=False):
+    def header(self, fewest_mib=0, crowd=False, gaps=False, empty=False):
         """With a crowd there are more processors and threads, and more often some that aren't connected; with gaps
-        there are more often sources that aren't claimed."""
+        there are more often sources that aren't claimed. An empty board has no processor that is connected."""
         pick = self.random
         sources = pick.choice((1, 2, 2, 3, 4))
         processors = pick.choice((1, 2, 2, 2, 3, 3, 4, 5, 64) if crowd else (1, 1, 2))
@@ -140,6 +151,8 @@ class Script:
             for _ in range(pick.choice(chances)):
                 first = pick.randrange(numbers)
                 self.say(name, first, pick.choice((first, pick.randrange(first, numbers))))
+        if empty:
+            self.say("unconnected", 0, processors - 1)
         self.say("go")
         self.learn()
 
@@ -565,6 +578,159 @@ class Script:
             return self.work(pick.choice(("quiet", "sync")), self.count + pick.choice((-1, 0, 0, 0, 1, 1 << 32)))
         self.work("endset", e, letters, self.processor() if "v" in letters else 0, 0, 0, 0, relay, payload)
 
+    # -- lines of the KVM device, and migrations
+
+    def attribute(self, group=None):
+        """An attribute that is set, often with a field or two at the border of a check, and what shows its effect."""
+        pick = self.random
+        group = group or pick.choice((1, 2, 2, 3, 3, 3, 4, 4, 4, 4, 5, 5, 0))
+        if group == 0:
+            return self.no_attribute()
+        given = self.good_fields(group)
+        for name in pick.sample(list(given), min(len(given), pick.choice((0, 0, 0, 0, 1, 1, 1, 2)))):
+            given[name] = pick.choice(self.border_of_field(name, given))
+        self.set_attribute(group, given)
+        if pick.randrange(2):
+            self.ask_attribute(given)
+
+    def no_attribute(self):
+        """One that there isn't, or a number for a queue."""
+        pick = self.random
+        value = pick.choice((0, 1, 2, TOP - 1))
+        self.work("kvmset", *pick.choice((
+            (pick.choice(NO_ATTRIBUTES), pick.choice((0, 1, 2, 3)), value), (1, pick.choice(NO_CONTROLS), value),
+            (4, pick.choice((8 * self.processor(), 7, 8 * len(self.processors), 0, TOP - 1)), value))))
+
+    def good_fields(self, group):
+        """Fields with which the attribute is accepted, mostly."""
+        pick = self.random
+        if group == 1:
+            control = pick.choice((1, 2, 2, 2, 3, 3))
+            values = (len(self.processors), 1) if control == 3 else (0, 1, TOP - 1)
+            return {"control": control, "value": pick.choice(values)}
+        s = self.source()
+        if group == 2:
+            return {"lisn": s, "kind": int(self.machine.sources[s].level), "line": pick.randrange(2), "above": 0}
+        if group == 5:
+            return {"lisn": s, "value": pick.choice((0, 0, 1, TOP - 1))}
+        e = self.target() if pick.randrange(4) else 8 * self.processor() + pick.randrange(7)
+        if group == 3:
+            valid = [e for e in self.ends if e % 8 < 7 and "v" in self.machine.ends[e].flags]
+            e = pick.choice(valid) if valid and pick.randrange(8) else e
+            return {"lisn": s, "priority": e % 8, "target": e // 8, "mask": int(pick.randrange(6) == 0),
+                    "eisn": pick.choice(PAYLOADS) & 0x7fffffff}
+        shift = pick.choice((12, 12, 12, 12, 12, 16, 21, 24, 0))
+        address = pick.choice((0, self.home, self.home, max(0, self.size - (1 << shift)))) >> shift << shift
+        entries = (1 << shift) // 4
+        index = pick.choice((0, 0, 1, 5, entries // 2, max(0, entries - 2), max(0, entries - 1)))
+        return {"priority": e % 8, "target": e // 8, "above": 0, "flags": 1, "shift": shift, "address": address,
+                "toggle": pick.choice((0, 1, 1)), "index": index}
+
+    def border_of_field(self, name, given):
+        """Values on both sides of what a check asks of a field, or that are ignored or cut."""
+        processors = self.machine.processors
+        shift = min(given.get("shift", 12), 24)
+        entries = (1 << shift) // 4
+        if name == "lisn":
+            return self.border(name, given)
+        if name == "address":
+            return [n % TOP for n in self.border(name, {"address": given[name], "size": shift})]
+        return {
+            "control": (1, 2, 3, 3, *NO_CONTROLS),
+            "value": (0, 1, len(processors), len(processors) + 1, 1 << 32 | 1, 1 << 63, TOP - 1),
+            "kind": (0, 1),
+            "line": (0, 1),
+            "above": (1, 2, 3, 1 << 14, 1 << 30, 1 << 31, (1 << 32) - 1),
+            "priority": (5, 6, 6, 7, 7, 7),
+            "target": (*[v for v, processor in enumerate(processors) if not processor.connected] * 3,
+                       len(processors) - 1, *(len(processors),) * 3, len(processors) + 1, 64, 1 << 8, 1 << 16,
+                       1 << 28, (1 << 29) - 1),
+            "mask": (0, 1),
+            "eisn": (0, 1, 0x3fffffff, 0x40000000, 0x7fffffff),
+            "flags": (0, 0, 0, 2, 3, 5, 0x101, 1 << 31 | 1, (1 << 32) - 1),
+            "shift": (0, 0, 1, 2, 11, 13, 13, 14, 15, 16, 17, 20, 21, 22, 23, 24, 25, 28, 32, 44, 0x10c, 1 << 31 | 12),
+            "toggle": (0, 1, 2, 2, 3, 0x100, 1 << 31, (1 << 32) - 1),
+            "index": (0, 1, entries - 1, *(entries,) * 3, entries + 1, 2 * entries - 1, 2 * entries, 1 << 30,
+                      (1 << 32) - 1),
+        }[name]
+
+    def set_attribute(self, group, given):
+        """The line that sets an attribute with these fields."""
+        if group == 1:
+            self.work("kvmset", 1, given["control"], given["value"])
+        elif group == 2:
+            self.work("kvmset", 2, given["lisn"], given["kind"] | given["line"] << 1 | given["above"] << 2)
+        elif group == 3:
+            self.work("kvmset", 3, given["lisn"],
+                      given["priority"] | given["target"] << 3 | given["mask"] << 32 | given["eisn"] << 33)
+        elif group == 4:
+            self.work("kvmeq", self.identifier(given), *[max(0, given[name]) for name in (
+                "flags", "shift", "address", "toggle", "index")])
+        else:
+            self.work("kvmset", 5, given["lisn"], given["value"])
+
+    @staticmethod
+    def identifier(given):
+        return given["priority"] | given["target"] << 3 | given.get("above", 0) << 32
+
+    def ask_attribute(self, given=None):
+        """The get of what was set, or else of any END."""
+        pick = self.random
+        given = given or self.good_fields(pick.choice((4, 4, 4, 3)))
+        if "lisn" in given and pick.randrange(8):
+            return self.work("hcall", 0x3b0, 0, given["lisn"], 0, 0, 0)
+        if "priority" not in given:
+            given = self.good_fields(4)
+        if pick.randrange(8) == 0:
+            given[pick.choice(("priority", "target"))] = 7
+        if pick.randrange(4) == 0:
+            given["above"] = pick.choice((1, 1 << 31))
+        group = 4 if pick.randrange(12) else pick.choice((1, 2, 3, 5, *NO_ATTRIBUTES))
+        self.work("kvmget", group, self.identifier(given))
+        if pick.randrange(4) == 0:
+            self.work("hcall", 0x3bc, 1, given["target"], given["priority"], 0, 0)
+
+    def servers(self):
+        """How many processors can be connected, or one that is to be."""
+        pick = self.random
+        many = len(self.processors)
+        if pick.randrange(3) == 0:
+            v = self.machine.servers + pick.choice((-1, -1, 0, 0, 0, 1))
+            return self.work("connect", min(max(v, 0), many - 1))
+        self.work("kvmset", 1, 3, pick.choice((
+            0, 1, 1, 2, many - 1, many, many, many + 1, 1 << 8 | 1, 1 << 32, 1 << 32 | 1, 1 << 63 | 1, TOP - 1)))
+
+    def state(self):
+        """The state of a processor, which is got, or set and mostly got then."""
+        pick = self.random
+        v = self.processor()
+        if pick.randrange(2):
+            return self.work("vpget", v)
+        self.work("vpset", v, pick.choice((0, 1, 4, 6, 7, 7, 8, 8, 9, 0x7f, 0x80, 0xfe, 0xff)),
+                  pick.choice((0, 1, 0x40, 0x80, 0xff, pick.getrandbits(8))))
+        if pick.randrange(2):
+            self.work("vpget", v)
+
+    def migrate(self):
+        """A migration, and what it left of a source."""
+        self.work("migrate")
+        if self.random.randrange(2):
+            self.work(self.random.choice(("get", "quiet")), self.source())
+
+    def attributes_up(self):
+        """Queues, and sources that go there, by attributes alone; now and then one is refused."""
+        pick = self.random
+        for e in self.few:
+            if not self.machine.processors[e // 8].connected and pick.randrange(8):
+                self.work("connect", e // 8)
+            self.set_attribute(4, dict(self.good_fields(4), priority=e % 8, target=e // 8, shift=12))
+        for s in range(self.count):
+            if not self.machine.sources[s].valid and pick.randrange(4):
+                self.set_attribute(2, dict(self.good_fields(2), lisn=s, kind=int(self.machine.sources[s].level)))
+            e = self.target()
+            self.set_attribute(3, dict(self.good_fields(3), lisn=s, priority=e % 8, target=e // 8))
+            self.switch_on(s)
+
     def raw(self):
         """A line of a source, whatever its pair is."""
         pick = self.random
@@ -580,7 +746,8 @@ class Script:
                  (self.configure, 5), (self.access, 8), (self.reopen, 2), (self.move, 4), (self.take, 3),
                  (self.ring, 3), (self.remark, 4), (self.relay, 4), (self.reopen_either, 3), (self.owe, 3),
                  (self.quiet, 4), (self.settle_all, 2), (self.ring_page, 3), (self.start, 1), (self.call, 10),
-                 (self.reset, 1))
+                 (self.reset, 1), (self.attribute, 7 * WHOLE), (self.ask_attribute, 2 * WHOLE), (self.state, 2 * WHOLE),
+                 (self.migrate, WHOLE))
         self.choose(lines)()
 
     def choose(self, weighted):
@@ -863,6 +1030,50 @@ class Script:
         for _ in range(pick.choice((6, 10, 10, 20, 60))):
             self.choose(tuple(zip(lines, weights)))()
 
+    def driven(self):
+        """Attributes of the KVM device, and events that go as they say."""
+        pick = self.random
+        self.header(1, crowd=pick.randrange(2) == 1, gaps=True)
+        if pick.randrange(4):
+            self.attributes_up()
+        weights = pick.choice(((12, 2, 1, 1, 2, 1, 1, 1), (9, 6, 2, 4, 2, 1, 2, 1), (5, 9, 3, 6, 2, 2, 2, 1)))
+        lines = (self.attribute, self.event, self.owe, self.read, self.ask_attribute, self.move, self.settle_all,
+                 self.configure)
+        for _ in range(pick.choice((4, 8, 10, 20, 60))):
+            self.choose(tuple(zip(lines, weights)))()
+
+    def served(self):
+        """A board on which nobody is connected at first."""
+        pick = self.random
+        self.header(crowd=True, empty=True)
+        for _ in range(pick.choice((0, 1, 2, 3))):
+            self.work("kvmset", 1, 3, pick.randrange(1, len(self.processors) + 1))
+        if pick.randrange(3) == 0:
+            self.work(*pick.choice((("reset",), ("kvmset", 1, 1, 0))))
+        weights = pick.choice(((8, 1, 1, 1, 0), (6, 1, 1, 1, 1)))
+        for _ in range(pick.choice((3, 6, 10))):
+            self.choose(tuple(zip((self.servers, self.state, self.attribute, self.any_move, self.reset), weights)))()
+
+    def states(self):
+        """States of processors whose contexts move."""
+        pick = self.random
+        self.header(crowd=True)
+        self.crew_up()
+        weights = pick.choice(((6, 4, 4, 2, 4), (3, 9, 6, 1, 6), (6, 1, 1, 4, 9)))
+        for _ in range(pick.choice((10, 30, 60))):
+            self.choose(tuple(zip((self.move, self.notify, self.take, self.ring, self.state), weights)))()
+
+    def migrated(self):
+        """Migrations while notices and messages of several sources are outstanding."""
+        pick = self.random
+        self.header(1, crowd=pick.randrange(2) == 1, gaps=True)
+        if pick.randrange(3):
+            self.set_up()
+        for _ in range(pick.choice((1, 2, 3))):
+            for _ in range(pick.randrange(6)):
+                self.choose(((self.owe, 4), (self.raw, 4), (self.event, 3), (self.assign, 1)))()
+            self.migrate()
+
     # -- scenes with lines that are wrong
 
     def refused_escalation(self):
@@ -974,8 +1185,11 @@ class Script:
         """A line of any word, mostly one that is right; it is only made, and not done."""
         pick = self.random
         name = pick.choices(list(LINES), [len(forms) + 2 for forms in LINES.values()])[0]
-        if name in ("endset", "hcall") and pick.randrange(8):
-            return self.only_made({"endset": self.configure, "hcall": self.call}[name])
+        makes = {"endset": self.configure, "hcall": self.call}
+        if WHOLE:
+            makes.update(kvmset=self.attribute, kvmeq=lambda: self.attribute(4), kvmget=self.ask_attribute)
+        if name in makes and pick.randrange(8):
+            return self.only_made(makes[name])
         level = [s for s in range(self.count) if self.machine.sources[s].level]
         words = []
         for form in LINES[name]:
@@ -1227,7 +1441,8 @@ class Script:
                   (self.windows, 20), (self.drained_bus, 3), (self.refused, 130), (self.refused_header, 50),
                   (self.escalating, 75), (self.changed_in_flight, 55), (self.outstanding, 40),
                   (self.refused_escalation, 70), (self.ring_pages, 40), (self.called, 400), (self.wrong_lines, 1500),
-                  (self.wrong_header_line, 340), (self.cut, 50))
+                  (self.wrong_header_line, 340), (self.cut, 50), (self.driven, 450 * WHOLE), (self.served, 150 * WHOLE),
+                  (self.states, 120 * WHOLE), (self.migrated, 130 * WHOLE))
         self.choose(scenes)()
         if self.ending is not None:
             return b"\n".join(self.lines) + self.ending

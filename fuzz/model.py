@@ -3,8 +3,11 @@
 
     fuzz/model.py < SCRIPT      writes the account; the exit status is 0 (done), 2 (refused) or 7 (too long)
 
-`run(script)` answers both, of bytes. Streams that fail and too little memory are not in it.
+`run(script)` answers both, of bytes. Streams that fail and too little memory are not in it. Where the environment has
+the word FUZZ_WHOLE, the whole language is built, and nothing is refused as `not-built`; what those lines answer
+isn't in the formats yet.
 """
+import os
 import re
 import sys
 from collections import namedtuple
@@ -196,7 +199,7 @@ class End:
         """Not valid, and all else 0."""
         self.configure("-", 0, 0, 0, 0, 0, 0)
 
-    def configure(self, flags, v, priority, address, shift, escalation, payload):
+    def configure(self, flags, v, priority, address, shift, escalation, payload, start=0):
         """Both states are 00 with v, else 01; nothing was written since, and nothing taken."""
         self.flags = flags
         self.v = v
@@ -205,6 +208,7 @@ class End:
         self.shift = shift
         self.escalation = escalation  # the END that it escalates to, and what is written there
         self.payload = payload
+        self.start = start            # the number of the entry that is written first, and read first
         self.states = ["00", "00"] if "v" in flags else ["01", "01"]
         self.written = 0
         self.taken = 0
@@ -212,11 +216,16 @@ class End:
     def entries(self):
         return 1 << (self.shift - 2)
 
+    # Of the entry before which j others were written since the configuration.
+
+    def index(self, j):
+        return (self.start + j) % self.entries()
+
     def place(self, j):
-        return self.address + 4 * (j % self.entries())
+        return self.address + 4 * self.index(j)
 
     def generation(self, j):
-        return 1 if (j // self.entries()) % 2 == 0 else 0
+        return 1 if (self.start + j) // self.entries() % 2 == 0 else 0
 
     def enqueue(self, memory, payload):
         """Writes the next entry: the generation, and 31 bits of payload."""
@@ -459,7 +468,7 @@ def get_queue(machine, given):
     flags, index = 1 if "n" in end.flags else 0, 0
     if given.flags & 1 and "q" in end.flags:
         flags |= end.generation(end.written) << 62
-        index = end.written % end.entries()
+        index = end.index(end.written)
     return flags, end.address, end.shift, index
 
 
@@ -518,6 +527,160 @@ def code_of(machine, call, given):
     return next((code for code in codes if code is not None), H_SUCCESS)
 
 
+# ---- attributes of the KVM device ------------------------------------------------------------------------------------
+
+ENOENT, ENXIO, E2BIG, EBUSY, EINVAL = -2, -6, -7, -16, -22
+CONTROL, QUEUE = 1, 4  # the group whose attributes are things to do, and the one whose values are queues
+
+# What is given: an attribute and its value are taken apart into fields. A processor is a server here.
+
+
+def number_given(_attribute, value):
+    return {"value": value}
+
+
+def source_given(attribute, value):
+    return {"lisn": attribute, "value": value}
+
+
+def route_given(attribute, value):
+    return {"lisn": attribute, "priority": value & 7, "target": value >> 3 & 0x1fffffff, "mask": value >> 32 & 1,
+            "eisn": value >> 33}
+
+
+def end_given(attribute):
+    """The bits above are ignored."""
+    return {"priority": attribute & 7, "target": attribute >> 3 & 0x1fffffff}
+
+
+def queue_given(attribute, value):
+    return dict(end_given(attribute), **dict(zip("flags shift address toggle index".split(), value)))
+
+
+# Checks are as those of hypercalls, and some are the same.
+
+
+def a_number_of_servers(machine, given):
+    return None if 1 <= given.value <= len(machine.processors) else EINVAL
+
+
+def nobody_connected(machine, _given):
+    return EBUSY if any(processor.connected for processor in machine.processors) else None
+
+
+def within_the_sources(code):
+    return lambda machine, given: None if given.lisn < len(machine.sources) else code
+
+
+def a_valid_source(machine, given):
+    return None if machine.sources[given.lisn].valid else EINVAL
+
+
+def its_kind(machine, given):
+    """Bit 0 says that it is a level source."""
+    return None if given.value & 1 == machine.sources[given.lisn].level else EINVAL
+
+
+def is_masked(_machine, given):
+    return H_SUCCESS if given.mask else None
+
+
+def an_end_with_a_queue(machine, given):
+    return None if "q" in machine.ends[8 * given.target + given.priority].flags else ENXIO
+
+
+def is_reset(_machine, given):
+    return H_SUCCESS if given.shift == 0 else None
+
+
+def always_notifies(_machine, given):
+    return None if given.flags == 1 else EINVAL
+
+
+def a_shift(_machine, given):
+    return None if given.shift in QUEUE_SHIFTS else EINVAL
+
+
+def a_place(machine, given):
+    return None if machine.memory.holds_queue(given.address, given.shift) else EINVAL
+
+
+def a_start(_machine, given):
+    return None if given.toggle <= 1 and given.index < 1 << given.shift - 2 else EINVAL
+
+
+# Effects.
+
+
+def set_servers(machine, given):
+    machine.servers = given.value
+
+
+def claim_source(machine, given):
+    source = machine.sources[given.lisn]
+    source.valid = True
+    source.clear()
+
+
+def set_route(machine, given):
+    """A mask leaves all else."""
+    source = machine.sources[given.lisn]
+    source.masked = given.mask == 1
+    if not source.masked:
+        source.end, source.payload = 8 * given.target + given.priority, given.eisn
+
+
+def set_eq(machine, given):
+    """TOGGLE is the generation of the entry at INDEX."""
+    end = machine.ends[8 * given.target + given.priority]
+    if given.shift == 0:
+        return end.reset()
+    start = given.index if given.toggle else given.index + (1 << given.shift - 2)
+    return end.configure("vqnb", given.target, given.priority, given.address, given.shift, 0, 0, start)
+
+
+def get_eq(machine, given):
+    """Of the entry that will be written next; all are 0 where there is no queue."""
+    end = machine.ends[8 * given.target + given.priority]
+    if "q" not in end.flags:
+        return 0, 0, 0, 0, 0
+    notifies = 1 if "n" in end.flags else 0
+    return notifies, end.shift, end.address, end.generation(end.written), end.index(end.written)
+
+
+# What the line does behind an attribute that was accepted.
+
+
+def drains(machine, _given):
+    machine.line_drain()
+
+
+def starts_off(machine, given):
+    """Bit 1 says that the line of a level source is up."""
+    machine.line_init(given.lisn, given.value >> 1 & 1 if machine.sources[given.lisn].level else 0)
+
+
+# How the fields are given, the checks in their order, the effect, and what the line goes on with.
+Attribute = namedtuple("Attribute", "given checks effect goes_on", defaults=(nothing,))
+CONTROLS = {
+    1: Attribute(number_given, (), reset_all, switches_off),
+    2: Attribute(number_given, (), nothing, drains),
+    3: Attribute(number_given, (a_number_of_servers, nobody_connected), set_servers),
+}
+GROUPS = {
+    2: Attribute(source_given, (within_the_sources(E2BIG), its_kind), claim_source, starts_off),
+    3: Attribute(route_given,
+                 (within_the_sources(ENOENT), a_valid_source, a_priority(EINVAL), is_masked, a_target(EINVAL),
+                  an_end_with_a_queue), set_route),
+    QUEUE: Attribute(queue_given,
+                     (a_target(ENOENT), a_priority(EINVAL), is_reset, always_notifies, a_shift, a_place, a_start),
+                     set_eq),
+    5: Attribute(source_given, (within_the_sources(ENOENT), a_valid_source), nothing, syncs),
+}
+# The one group that is answered.
+ASKED = Attribute(end_given, (a_target(ENOENT), a_priority(EINVAL)), get_eq)
+
+
 # ---- the machine -----------------------------------------------------------------------------------------------------
 
 # The work lines without their ACTOR. Of each the word, and the forms of the words behind it: N is any number, and I one
@@ -530,7 +693,7 @@ LINES = {line.split()[0]: line.split()[1:] for line in (
     "vpget V", "vpset V BYTE BYTE", "read E", "peek N", "zero N N", "fire S", "finish S", "assert S", "settle", "drain",
     "sync S", "cppr T BYTE", "ack T", "inject T BYTE", "regs T", "push T V", "pull T", "reset", "migrate")}
 # In the language, but not built.
-NOT_BUILT = ("kvmset", "kvmeq", "kvmget", "vpget", "vpset", "migrate")
+NOT_BUILT = () if "FUZZ_WHOLE" in os.environ else ("kvmset", "kvmeq", "kvmget", "vpget", "vpset", "migrate")
 
 
 def is_among(n, ranges):
@@ -548,6 +711,7 @@ class Machine:
                         for s in range(board.counts["sources"])]
         self.processors = [Processor(not is_among(v, ranges["unconnected"]))
                            for v in range(board.counts["processors"])]
+        self.servers = len(self.processors)  # those from there on can't be connected
         self.threads = [Thread() for _ in range(board.counts["threads"])]
         self.ends = [End() for _ in range(8 * len(self.processors))]
         self.flight = []  # the messages in the order made
@@ -693,6 +857,35 @@ class Machine:
         if code == H_SUCCESS:
             call.goes_on(self, given)
 
+    def line_kvmset(self, group, attribute, value):
+        self.set_attribute(f"kvmset {group} {attribute:#x} {value:#x}", group, attribute, value)
+
+    def line_kvmeq(self, attribute, *queue):
+        self.set_attribute("kvmeq {:#x} {:#x} {} {:#x} {} {}".format(attribute, *queue), QUEUE, attribute, queue)
+
+    def set_attribute(self, operation, group, attribute, value):
+        """Whether there is such an attribute is asked first, and then whether its value has its form."""
+        row = CONTROLS.get(attribute) if group == CONTROL else GROUPS.get(group)
+        if row is None:
+            return self.entry(operation, f"code {ENXIO}")
+        if isinstance(value, int) == (group == QUEUE):
+            return self.entry(operation, f"code {EINVAL}")
+        given = SimpleNamespace(**row.given(attribute, value))
+        code = code_of(self, row, given)
+        if code == H_SUCCESS:
+            row.effect(self, given)
+        self.entry(operation, f"code {code}")
+        if code == H_SUCCESS:
+            row.goes_on(self, given)
+
+    def line_kvmget(self, group, attribute):
+        given = SimpleNamespace(**ASKED.given(attribute))
+        code = code_of(self, ASKED, given) if group == QUEUE else ENXIO
+        outcome = f"code {code}"
+        if code == H_SUCCESS:
+            outcome = "queue {:#x} {} {:#x} {} {}".format(*ASKED.effect(self, given))
+        self.entry(f"kvmget {group} {attribute:#x}", outcome)
+
     def line_reset(self):
         self.line_hcall(0x3d0, 0, 0, 0, 0, 0)
 
@@ -830,6 +1023,8 @@ class Machine:
     # -- moves of contexts; of each the first refusal that holds
 
     def line_connect(self, v):
+        if v >= self.servers:
+            return self.entry(f"connect {v}", f"code {EINVAL}")
         self.processors[v].connected = True
         self.entry(f"connect {v}", "code 0")
 
@@ -884,6 +1079,38 @@ class Machine:
         thread.clear()
         processor.goes("saved", None)
         return "ok"
+
+    # -- the state of a processor, which is got and set while its context is saved; and a migration
+
+    def line_vpget(self, v):
+        processor = self.processors[v]
+        outcome = f"code {self.state_code(processor)}"
+        if outcome == "code 0":
+            outcome = f"context {processor.cppr:#x} {processor.ipb | processor.backlog:#x}"
+        self.entry(f"vpget {v}", outcome)
+
+    def line_vpset(self, v, cppr, ipb):
+        processor = self.processors[v]
+        code = self.state_code(processor)
+        if code == 0:
+            processor.cppr = cppr if cppr <= 7 else 0xff
+            processor.ipb, processor.backlog = ipb, 0
+        self.entry(f"vpset {v} {cppr:#x} {ipb:#x}", f"code {code}")
+
+    @staticmethod
+    def state_code(processor):
+        if not processor.connected:
+            return EINVAL
+        return 0 if processor.phase == "saved" else EBUSY
+
+    def line_migrate(self):
+        """All sources are drained, but those alone are switched off and on whose EAS is valid."""
+        pairs = {s: source.pq for s, source in enumerate(self.sources) if source.valid}
+        for s in pairs:
+            self.line_set(s, "01")
+        self.line_drain()
+        for s, pair in pairs.items():
+            self.line_set(s, pair)
 
     # -- the pages of a thread, and the lines that are accesses to them
 
