@@ -31,12 +31,12 @@ all_from : (z : Start) (line : Line) (e : Ends z line) (before : List Entry) (n 
 all_from z line e before n part b l w None at = (part, record { begins = b; ends = at }, l)
 all_from z line e before zero part b l w (Some o) at =
     let more = begins_more z line before part o (legal z (part ++ before) o) b at in
-    let legal_at = legal_more z line (part ++ before) o _ l e.actor (e.valid_ops before part o b at) refl in
+    let legal_at = legal_more z line (part ++ before) o _ l e.actor (e.valid_ops before part o b l at) refl in
     absurd (let down = e.falls before part _ more legal_at in omega arith)
 all_from z line e before (suc n) part b l w (Some o) at =
     let x = made line o (legal z (part ++ before) o) in
     let more = begins_more z line before part o (legal z (part ++ before) o) b at in
-    let legal_at = legal_more z line (part ++ before) o _ l e.actor (e.valid_ops before part o b at) refl in
+    let legal_at = legal_more z line (part ++ before) o _ l e.actor (e.valid_ops before part o b l at) refl in
     let down = e.falls before part x more legal_at in
     all_from z line e before n (x ∷ part) more legal_at (omega arith) (line.next z before (x ∷ part)) refl
 

@@ -25,7 +25,7 @@ is_source-half : (z : Start) (s : ℕ) (h : List Entry) → is_source z (fabric_
 is_source-half z s h = λ i. nat_lt s z.board.limits.sources && (eas-half z s h i).valid
 
 -- so is whether a number is that of a connected processor
-is_target-half : (z : Start) (v : ℕ) (h : List Entry) → is_target z (fabric_of z.board h) v ≡ is_target z h v
+pub is_target-half : (z : Start) (v : ℕ) (h : List Entry) → is_target z (fabric_of z.board h) v ≡ is_target z h v
 is_target-half z v h = λ i. nat_lt v z.board.limits.processors && is_connected-half z v h i
 
 -- the checks of a call after the fabric's entries are those after the account

@@ -19,7 +19,7 @@ use Rattle.xv_model.specs.account.Kinds.{is_fabric, run_of}
 use Rattle.xv_model.specs.source.PqTable.{trigger_row}
 use Rattle.xv_model.specs.source.Notices.{forwards, routes, outstanding}
 use Rattle.xv_model.specs.end.Flags.{is_valid, enqueues}
-use Rattle.xv_model.specs.source.Eas.{eas_after, eas}
+use Rattle.xv_model.specs.source.Eas.{eas_after, eas_after_setting, eas}
 use Rattle.xv_model.specs.end.Descriptors.{configuration_in, config_at, config_by, end_config, since_config, until_config}
 use Rattle.xv_model.specs.end.EventStates.{first_state, ran_at, asks_state, asked_end, load_in, load_at, load_by, esn, ese}
 use Rattle.xv_model.specs.end.Pages.{loaded, end_page_answer}
@@ -30,8 +30,9 @@ use Rattle.xv_model.specs.board.Validity.{ram_size, fits}
 use Rattle.xv_model.specs.route.Flight.{made_by, messages_by, source_of, taken_in, message_in, is_escalating, escalation_of, made, without, messages_after, flight}
 use Rattle.xv_model.specs.route.Routing.{write_by, next_by, end_pass, routed_by, route_outcome}
 use Rattle.xv_model.specs.route.Quiet.{messages_of, quiet_by, quiet_answer}
-use Rattle.xv_model.specs.processor.Phases.{connected_in, is_connected}
+use Rattle.xv_model.specs.processor.Phases.{connected_in, is_connected, servers}
 use Rattle.xv_model.specs.call.Accepted.{call_in}
+use Rattle.xv_model.specs.device.Accepted.{setting_in, servers_in}
 use Rattle.xv_model.specs.account.Halves.{words_of, fabric_of}
 use Rattle.xv_model.proofs.HalvesLemmas.{half, forwards-half, routes-half}
 
@@ -40,10 +41,16 @@ no_call : (b : Board) (o : Op) (u : Outcome) → is_fabric b o ≡ false → cal
 no_call b (op.Hcall number args) u other = cc
 no_call b _ u other = refl
 
+-- an operation that isn't the fabric's is no setting
+no_setting : (b : Board) (o : Op) (u : Outcome) → is_fabric b o ≡ false → setting_in o u ≡ None
+no_setting b (op.AttrSet group number value) u other = cc
+no_setting b _ u other = refl
+
 -- an operation that isn't the fabric's configures no END
 no_configuration : (b : Board) (o : Op) (u : Outcome) → is_fabric b o ≡ false → configuration_in o u ≡ None
 no_configuration b (op.EndSet e c) u other = cc
 no_configuration b (op.Hcall number args) u other = cc
+no_configuration b (op.AttrSet group number value) u other = cc
 no_configuration b _ u other = refl
 
 -- an operation that isn't the fabric's is no pass of an END
@@ -97,7 +104,7 @@ no_item b _ u e other = refl
 
 -- an entry that isn't the fabric's leaves the EAS of s
 pub eas-skips : (z : Start) (s : ℕ) (x : Entry) (h : List Entry) → is_fabric z.board x.op ≡ false → eas z (x ∷ h) s ≡ eas z h s
-eas-skips z s x h other = rw (no_call z.board x.op x.outcome other) refl
+eas-skips z s x h other = rw (no_setting z.board x.op x.outcome other, no_call z.board x.op x.outcome other) refl
 
 -- an entry that isn't the fabric's leaves the configuration of e
 pub end_config-skips : (z : Start) (e : ℕ) (x : Entry) (h : List Entry) → is_fabric z.board x.op ≡ false → end_config z (x ∷ h) e ≡ end_config z h e
@@ -145,7 +152,7 @@ flight-skips z x h other = no_messages z h x.op x.outcome (flight z h) other
 
 -- the EAS of s is that of the fabric's entries
 pub eas-half : (z : Start) (s : ℕ) (h : List Entry) → eas z (fabric_of z.board h) s ≡ eas z h s
-eas-half z s = half (λ x. is_fabric z.board x.op) (λ h. eas z h s) (λ x h. ap (λ before. option_map_or (λ c. eas_after c s before) (call_in x.op x.outcome) before)) (eas-skips z s)
+eas-half z s = half (λ x. is_fabric z.board x.op) (λ h. eas z h s) (λ x h. ap (λ before. option_map_or (λ c. eas_after_setting c s before) (setting_in x.op x.outcome) (option_map_or (λ c. eas_after c s before) (call_in x.op x.outcome) before))) (eas-skips z s)
 
 -- the configuration of e is that of the fabric's entries
 pub end_config-half : (z : Start) (e : ℕ) (h : List Entry) → end_config z (fabric_of z.board h) e ≡ end_config z h e
@@ -158,6 +165,14 @@ is_connected-skips z v x h other = rw (no_connection z.board x.op x.outcome othe
 -- whether v is connected is what the fabric's entries say
 pub is_connected-half : (z : Start) (v : ℕ) (h : List Entry) → is_connected z (fabric_of z.board h) v ≡ is_connected z h v
 is_connected-half z v = half (λ x. is_fabric z.board x.op) (λ h. is_connected z h v) (λ x h. ap (λ before. option_map_or (λ u. u == v) (connected_in x.op x.outcome) false || before)) (is_connected-skips z v)
+
+-- an entry that isn't the fabric's leaves how many processors can be connected
+pub servers-skips : (z : Start) (x : Entry) (h : List Entry) → is_fabric z.board x.op ≡ false → servers z (x ∷ h) ≡ servers z h
+servers-skips z x h other = rw (no_setting z.board x.op x.outcome other) refl
+
+-- how many can be is what the fabric's entries say
+pub servers-half : (z : Start) (h : List Entry) → servers z (fabric_of z.board h) ≡ servers z h
+servers-half z = half (λ x. is_fabric z.board x.op) (servers z) (λ x h. ap (option_map_or (λ n. n) (servers_in x.op x.outcome))) (servers-skips z)
 
 -- the message that a pass makes after the fabric's entries is the one that it makes after the account
 made_by-half : (z : Start) (h : List Entry) (s : ℕ) (r : Option EndRun) → made_by z (fabric_of z.board h) s r ≡ made_by z h s r

@@ -24,7 +24,7 @@ use Rattle.xv_model.specs.account.Start.{Start, start, no_config}
 use Rattle.xv_model.specs.account.Kinds.{run_of}
 use Rattle.xv_model.specs.account.Fit.{IsFitConfig, IsFit, IsFitStart}
 use Rattle.xv_model.specs.account.Legal.{IsLegal, legal}
-use Rattle.xv_model.specs.board.Validity.{valid, end_count, has_queue, has_nothing, notifies_one, is_escalation_end, has_escalation, has_no_escalation, valid_config, may_be_configured}
+use Rattle.xv_model.specs.board.Validity.{valid, end_count, has_queue, has_nothing, notifies_one, is_escalation_end, has_escalation, has_no_escalation, valid_config, may_be_configured, may_be_set}
 use Rattle.xv_model.specs.end.Flags.{has_bit, keeps_backlog, may_escalate, escalates, is_valid, is_silent, always_notifies}
 use Rattle.xv_model.specs.declared.hypercalls.flags.TheConstants.{END_ALWAYS_NOTIFY}
 use Rattle.xv_model.specs.declared.hypercalls.arguments.SetQueueConfigArgs.{SetQueueConfigArgs}
@@ -32,7 +32,11 @@ use Rattle.xv_model.specs.declared.hypercalls.Call.{Call}
 use Rattle.xv_model.specs.declared.hypercalls.Call.TheVariants as call
 use Rattle.xv_model.specs.call.Arguments.{end_of}
 use Rattle.xv_model.specs.call.Accepted.{call_in}
-use Rattle.xv_model.specs.end.Descriptors.{resets, queue_told, config_told, configuration_by, configuration_in, config_at, config_by, end_config}
+use Rattle.xv_model.specs.declared.kvm.arguments.EqArgs.{EqArgs}
+use Rattle.xv_model.specs.declared.kvm.Setting.{Setting}
+use Rattle.xv_model.specs.declared.kvm.Setting.TheVariants as setting
+use Rattle.xv_model.specs.device.Accepted.{setting_in}
+use Rattle.xv_model.specs.end.Descriptors.{resets, queue_told, config_told, configuration_by, resets_end, queue_set, config_set, configuration_set, configuration_in, config_at, config_by, end_config}
 use Rattle.xv_model.specs.route.Flight.{messages_by, made_by, source_of, taken_in, is_escalating, escalation_of, made, without, messages_after, flight}
 use Rattle.xv_model.specs.route.Routing.{next_by, write_by, end_pass, route_outcome}
 use Rattle.xv_model.specs.route.Taking.{is_undelivered, presented_to, escalates_on, taken_by}
@@ -78,10 +82,10 @@ by_v b e c false w lone =
 -- a configuration that the board's END e may have
 fit_config : (b : Board) (e : ℕ) (c : EndConfig) → valid b (op.EndSet e c) ≡ true → IsFitConfig e c
 fit_config b e c v =
-    let r = and_parts (nat_lt e (end_count b)) (may_be_configured b e c) v in
-    let u = and_parts (valid_config b c) (not (escalates c && is_escalation_end e)) r.1 in
-    let q = and_parts (c.start == 0) _ u.0 in
-    let w = and_parts (has_queue b c) _ q.1 in
+    let r = and_parts (nat_lt e (end_count b)) (may_be_set b e c) v in
+    let q = and_parts (c.start == 0) (may_be_configured b e c) r.1 in
+    let u = and_parts (valid_config b c) (not (escalates c && is_escalation_end e)) q.1 in
+    let w = and_parts (has_queue b c) _ u.0 in
     by_v b e c (is_valid c) w.1 u.1
 
 -- a configuration that doesn't escalate
@@ -122,11 +126,27 @@ fit_called (Some (call.Reset args)) e c is = let what : no_config ≡ c = cc in 
 fit_called (Some _) e c is = cc
 fit_called None e c is = cc
 
+-- nor does the KVM device set an END to what escalates
+fit_set : (e : ℕ) (c : EqArgs) → IsFitConfig e (config_set c)
+fit_set e c = by (resets_end c.eq)
+  where
+    by : (reset : Bool) → IsFitConfig e (if reset then no_config else queue_set c)
+    by true = unescalating e no_config refl refl
+    by false = unescalating e (queue_set c) refl refl
+
+-- an accepted setting's configuration of e is one that doesn't escalate
+fit_setting : (m : Option Setting) (e : ℕ) (c : EndConfig) → config_at e (option_and_then configuration_set m) ≡ Some c → IsFitConfig e c
+fit_setting (Some (setting.EqConfig args)) e c is = fit_same (end_of args.id.server args.id.priority == e) (end_of args.id.server args.id.priority) e (config_set args) c refl (fit_set (end_of args.id.server args.id.priority) args) is
+fit_setting (Some setting.Reset) e c is = let what : no_config ≡ c = cc in subst (IsFitConfig e) what (unescalating e no_config refl refl)
+fit_setting (Some _) e c is = cc
+fit_setting None e c is = cc
+
 -- an entry's configuration of e is one that the board has
 fit_configured : (b : Board) (o : Op) (u : Outcome) (e : ℕ) (c : EndConfig) → valid b o ≡ true → config_at e (configuration_in o u) ≡ Some c → IsFitConfig e c
 fit_configured b (op.EndSet end d) out.Fine e c v is = fit_same (end == e) end e d c refl (fit_config b end d v) is
 fit_configured b (op.EndSet end d) _ e c v is = cc
 fit_configured b (op.Hcall number args) u e c v is = fit_called (call_in (op.Hcall number args) u) e c is
+fit_configured b (op.AttrSet group number value) u e c v is = fit_setting (setting_in (op.AttrSet group number value) u) e c is
 fit_configured b _ u e c v is = cc
 
 -- the configuration after an entry, where it configures e, or not
@@ -258,4 +278,6 @@ pub fit_start : (b : Board) → IsFitStart (start b)
 fit_start b = record {
   configs = λ e. record { payload = lit< tt; escalation = λ on. cc; last = λ l. refl };
   messages = All-nil IsFit;
+  pairs = λ s. lit< tt;
+  old_pairs = λ s. lit< tt;
 }

@@ -13,6 +13,7 @@ use Rattle.xv_model.specs.account.Start.{Start, start}
 use Rattle.xv_model.specs.account.Legal.{IsLegal, legal}
 use Rattle.xv_model.specs.call.Arguments.{call_of}
 use Rattle.xv_model.specs.call.Accepted.{is_success, call_in}
+use Rattle.xv_model.specs.device.Accepted.{setting_in}
 use Rattle.xv_model.specs.call.Checks.{code_of, checks}
 use Rattle.xv_model.specs.call.Outputs.{outputs}
 use Rattle.xv_model.specs.call.Hypercalls.{reply_with, call_reply, hcall_reply}
@@ -41,8 +42,9 @@ refused_does_nothing b h l before later x number args reply whole is answer refu
     let n = (legal_before z later (x ∷ before) (subst (IsLegal z) whole l)).1 in
     let same : out.Reply reply ≡ out.Reply (hcall_reply z before number args) = sym answer ∙ n.outcome ∙ ap (legal z before) is in
     let replied : reply ≡ hcall_reply z before number args = cc in
-    let none = refused_call x.op x.outcome number args reply is answer refused in (
+    let none = refused_call x.op x.outcome number args reply is answer refused in
+    let unset : setting_in x.op x.outcome ≡ None = ap (λ o. setting_in o x.outcome) is in (
       subst (λ r. is_success r.code ≡ false → r.outs ≡ 0) (sym replied) (bare z before (call_of number args)) refused,
-      λ s. rw none refl,
+      λ s. rw (unset, none) refl,
       λ e. rw is (ap (λ m. config_at e (option_and_then configuration_by m)) (ap (λ o. call_in o x.outcome) (sym is) ∙ none)),
     )

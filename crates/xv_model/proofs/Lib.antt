@@ -1,9 +1,12 @@
+pub mod AcceptedSettings
 pub mod Accounts
 pub mod AcknowledgementLaws
 pub mod Beginnings
 pub mod Burdens
 pub mod Bytes
 pub mod CallHalves
+pub mod DeviceExample
+pub mod DeviceHalves
 pub mod Elements
 pub mod EscalationLaws
 pub mod FabricHalves
@@ -14,6 +17,7 @@ pub mod HalvesLemmas
 pub mod HypercallLaws
 pub mod KeptOff
 pub mod LegalHalves
+pub mod MigrationLaws
 pub mod MoreLines
 pub mod OneAccount
 pub mod QueueAccount
@@ -26,7 +30,9 @@ pub mod QueueWords
 pub mod PendingLaws
 pub mod ProcessorHalves
 pub mod ProcessorRows
+pub mod RefusalLaws
 pub mod RouteLaws
+pub mod ServerLaws
 pub mod ShownLaws
 pub mod SmallEisns
 pub mod SmallPairs

@@ -1,6 +1,8 @@
 -- What the definitions of processors say of an account they say of its fabric entries alone.
 use Rattle.std.proofs.Common.{ℕ, ◌≡◌, ◌+◌, ◌-◌, ◌&&◌, ◌||◌, nat_le, nat_lt, Bool, true, false, not, if◌then◌else◌, List, ◌∷◌, slice_get, Option, Some, None, refl, ap, ◌∙◌}
+use Rattle.std.specs.Prelude.{pos}
 use Rattle.std.specs.Option.{option_map_or, option_or}
+use Rattle.xv_model.specs.declared.kvm.errors.TheConstants.{EINVAL}
 use Rattle.xv_model.specs.declared.board.Board.{Board}
 use Rattle.xv_model.specs.declared.operations.Op.{Op}
 use Rattle.xv_model.specs.declared.operations.Op.TheVariants as op
@@ -28,9 +30,9 @@ use Rattle.xv_model.specs.processor.RingOps.{ring_op, ring_access}
 use Rattle.xv_model.specs.processor.Phases.{cam_of, move_in, moved_at, is_saved, is_running, phase, user_below, user_of}
 use Rattle.xv_model.specs.processor.Pending.{presentation_in, is_kept, is_late, is_of, access_says, ipb_set, pending, keeps, kept, late}
 use Rattle.xv_model.specs.processor.Registers.{cppr_set, cppr_at, cppr, used_ring, ring_of, ring}
-use Rattle.xv_model.specs.processor.Moves.{is_restored, is_pulled, restore_outcome, save_outcome, push_outcome, on_by, on_of, pull_outcome}
+use Rattle.xv_model.specs.processor.Moves.{is_restored, is_pulled, connect_outcome, restore_outcome, save_outcome, push_outcome, on_by, on_of, pull_outcome}
 use Rattle.xv_model.specs.processor.Accesses.{acknowledged, load_value, if_on, ring_outcome, tima_outcome}
-use Rattle.xv_model.proofs.FabricHalves.{is_connected-half, flight-half, ese-half, end_pass-half}
+use Rattle.xv_model.proofs.FabricHalves.{is_connected-half, servers-half, flight-half, ese-half, end_pass-half}
 use Rattle.xv_model.proofs.HalvesLemmas.{half}
 
 -- an operation that isn't the fabric's is no access to a ring
@@ -121,6 +123,10 @@ used_ring-half z v h (Pulled t) = λ i. ring_of false (cppr-half z v h i) (λ p.
 -- the ring of a thread is that of the fabric's entries
 pub ring-half : (z : Start) (t : ℕ) (h : List Entry) → ring z (fabric_of z.board h) t ≡ ring z h t
 ring-half z t h = λ i. option_map_or (λ v. used_ring-half z v h (phase-half z v h i) i) (user_of-half z t h i) (ring_of false 0 (λ p. false) 0)
+
+-- what connecting v answers after the fabric's entries is what it answers after the account
+pub connect_outcome-half : (z : Start) (v : ℕ) (h : List Entry) → connect_outcome z (fabric_of z.board h) v ≡ connect_outcome z h v
+connect_outcome-half z v h = λ i. out.Code (if nat_lt v (servers-half z h i) then pos 0 else EINVAL)
 
 -- what a move of a context answers after the fabric's entries is what it answers after the account
 pub restore_outcome-half : (z : Start) (v t : ℕ) (h : List Entry) → restore_outcome z (fabric_of z.board h) v t ≡ restore_outcome z h v t

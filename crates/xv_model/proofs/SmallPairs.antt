@@ -15,7 +15,7 @@ use Rattle.xv_model.specs.account.Kinds.{WordAccess, access_of}
 use Rattle.xv_model.specs.source.Pages.{page_op, management_op, trigger_page_op, load_op, store_op}
 use Rattle.xv_model.specs.declared.pages.TheConstants.{ESB_OFFSETS, ESB_STORE_EOI, ESB_GET, ESB_SET_PQ}
 use Rattle.xv_model.specs.source.PqTable.{pq_row}
-use Rattle.xv_model.specs.source.Pairs.{Touch, touch_of, touch_at, pq, asserted}
+use Rattle.xv_model.specs.source.Pairs.{Touch, touch_of, touch_at, pq, asserted, old_in, old_pair}
 use Rattle.xv_model.specs.board.Boards.{is_level}
 use Rattle.xv_model.specs.board.Validity.{valid, has_op}
 use Rattle.xv_model.specs.account.Legal.{IsLegal}
@@ -103,3 +103,23 @@ pq-below z (x ∷ h) s l w =
     let a : access_of z.board x.op ≡ Some (record { source = s; op = t.op }) = touch_is s (access_of z.board x.op) x.outcome t e in
     let sets : SetsPair t.op = sets_access z.board x.op _ l.1.valid_op a in
     subst (λ n. n < 4) (sym f.new) (small_cell t.op (is_level z.board s) (asserted z h s) (pq z h s) before sets)) before
+
+-- the pair before the last set, after a touch
+small_old : (o : PqOp) (old before : ℕ) → old < 4 → before < 4 → old_in o old before < 4
+small_old (Set new) old before l w = l
+small_old Trigger old before l w = w
+small_old Eoi old before l w = w
+small_old Get old before l w = w
+small_old Raise old before l w = w
+small_old Lower old before l w = w
+small_old (Init asserted) old before l w = w
+
+small_old_after : (m : Option Touch) (k : ℕ) → ((t : Touch) → m ≡ Some t → t.old < 4) → k < 4 → option_map_or (λ t. old_in t.op t.old k) m k < 4
+small_old_after None k w l = l
+small_old_after (Some t) k w l = small_old t.op t.old k (w t refl) l
+
+-- and so is the pair that it had before it was set last
+pub old_pair-below : (z : Start) (h : List Entry) (s : ℕ) → IsLegal z h → z.pair s < 4 → z.old_pair s < 4 → old_pair z h s < 4
+old_pair-below z [] s l w v = v
+old_pair-below z (x ∷ h) s l w v =
+    small_old_after (touch_at s (touch_of z.board x)) (old_pair z h s) (λ t e. let f = legal_touch z h s x t l.1 e in subst (λ n. n < 4) (sym f.old) (pq-below z h s l.0 w)) (old_pair-below z h s l.0 w v)

@@ -1,5 +1,6 @@
 -- The outcomes of a legal account are well-formed.
 use Rattle.std.proofs.Common.{ℕ, ◌≡◌, ◌==◌, ◌+◌, ◌<◌, ◌≤◌, ◌&&◌, Bool, true, false, not, if◌then◌else◌, ◌-◌, List, [], length, slice_get, Option, Some, None, refl, sym, subst, arith}
+use Rattle.std.specs.Prelude.{ℤ}
 use Rattle.std.specs.Option.{option_map_or}
 use Rattle.xv_base.specs.Limits.{most_messages, most_forwards}
 use Rattle.xv_model.specs.declared.operations.Op.{Op}
@@ -10,7 +11,12 @@ use Rattle.xv_model.specs.declared.outcomes.MoveRefused.TheVariants.{RingBusy, N
 use Rattle.xv_model.specs.declared.hypercalls.codes.TheConstants.{H_FUNCTION}
 use Rattle.xv_model.specs.declared.hypercalls.Call.{Call}
 use Rattle.xv_model.specs.declared.hypercalls.Call.TheVariants as call
-use Rattle.xv_model.specs.call.Arguments.{call_of}
+use Rattle.xv_model.specs.declared.kvm.Attribute.{Attribute}
+use Rattle.xv_model.specs.declared.kvm.Attribute.TheVariants as attribute
+use Rattle.xv_model.specs.device.Attributes.{attribute_of}
+use Rattle.xv_model.specs.device.Checks.{eq_id_checks}
+use Rattle.xv_model.specs.device.Answers.{fields_of, got_by, got_of, vp_state_code}
+use Rattle.xv_model.specs.call.Arguments.{call_of, end_of}
 use Rattle.xv_model.specs.call.Accepted.{is_success}
 use Rattle.xv_model.specs.call.Checks.{code_of, checks}
 use Rattle.xv_model.specs.call.Outputs.{outputs}
@@ -30,7 +36,9 @@ use Rattle.xv_model.specs.route.Quiet.{messages_of}
 use Rattle.xv_model.specs.route.Taking.{taken_by}
 use Rattle.xv_model.specs.processor.Phases.{cam_of, is_connected, is_saved, phase, user_of}
 use Rattle.xv_model.specs.processor.RingOps.{ring_op}
-use Rattle.xv_model.specs.processor.Registers.{ring}
+use Rattle.xv_model.specs.processor.Priorities.{byte_of}
+use Rattle.xv_model.specs.processor.Pending.{pending}
+use Rattle.xv_model.specs.processor.Registers.{cppr, ring}
 use Rattle.xv_model.specs.processor.Moves.{is_pulled, is_restored, is_cam, on_of}
 use Rattle.xv_model.specs.processor.Accesses.{acknowledged, ring_outcome}
 use Rattle.xv_model.specs.board.Boards.{is_level}
@@ -97,6 +105,15 @@ reply_well_formed : (z : Start) (h : List Entry) (m : Option Call) → (option_m
 reply_well_formed z h (Some c) = few_replied (is_success (code_of (checks z h c))) (outputs z h c) (few_outputs z h c)
 reply_well_formed z h None = omega arith
 
+-- what a call to the KVM device gets is well-formed
+got_well_formed : (code : ℤ) (got : Outcome) → IsWellFormed got → IsWellFormed (got_by code got)
+got_well_formed code got w = well_formed_if (is_success code) got (out.Code code) w tt
+
+got_of_well_formed : (z : Start) (h : List Entry) (m : Option Attribute) → IsWellFormed (got_of z h m)
+got_of_well_formed z h (Some (attribute.EqConfig id)) = got_well_formed (code_of (eq_id_checks z h id)) (out.Queue (fields_of z h (end_of id.server id.priority))) tt
+got_of_well_formed z h (Some _) = tt
+got_of_well_formed z h None = tt
+
 -- an answer of an operation on no word is well-formed
 fabric_well_formed : (z : Start) (h : List Entry) (o : Op) → ((e : ℕ) → HasPairs z h e) → IsWellFormed (answer_on z h o (part_beside o))
 fabric_well_formed z h (op.Quiet s) w = well_formed_if ((outstanding z h s == 0) && (messages_of (flight z h) s == 0)) _ _ tt tt
@@ -118,6 +135,8 @@ fabric_well_formed z h (op.Save v) w = well_formed_if (not (is_connected z h v))
 fabric_well_formed z h (op.Tima t page offset size access) w = tima_well_formed z h t (ring_op page offset size access)
 fabric_well_formed z h (op.Peek addr) w = well_formed_if (fits (ram_size z.board) addr 4) _ _ tt tt
 fabric_well_formed z h (op.Zero addr len) w = well_formed_if (fits (ram_size z.board) addr len) _ _ tt tt
+fabric_well_formed z h (op.AttrGet group number) w = got_of_well_formed z h (attribute_of group number)
+fabric_well_formed z h (op.VpGet v) w = got_well_formed (vp_state_code z h v) (out.Context (cppr z h v) (byte_of (pending z h v))) tt
 fabric_well_formed z h _ w = tt
 
 -- the answer of an operation is well-formed, by whether it is an access

@@ -6,5 +6,6 @@ pub mod source
 pub mod end
 pub mod route
 pub mod call
+pub mod device
 pub mod processor
 pub mod laws

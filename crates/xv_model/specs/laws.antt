@@ -7,3 +7,7 @@ pub mod Acknowledgements
 pub mod Escalations
 pub mod Notices
 pub mod Hypercalls
+pub mod DeviceExample
+pub mod Refusals
+pub mod Migrations
+pub mod Servers

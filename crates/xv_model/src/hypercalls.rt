@@ -37,7 +37,7 @@ pub const H_INT_ESB: u64 = 0x3c8;
 /// Waits until a source is quiet (h_int_sync).
 pub const H_INT_SYNC: u64 = 0x3cc;
 
-/// Resets all sources and ENDs (h_int_reset).
+/// Resets the ENDs, and turns off the sources that are initialised (h_int_reset).
 pub const H_INT_RESET: u64 = 0x3d0;
 
 /// A call that is known, with its arguments. H_INT_SET_OS_REPORTING_LINE and H_INT_GET_OS_REPORTING_LINE are not:

@@ -3,7 +3,7 @@
 ghost use Rattle.std.specs.Prelude.{◌≡◌, ◌<◌, ℕ, List};
 ghost use Rattle.xv_model.specs.declared.entries.Entry.{Entry};
 ghost use Rattle.xv_model.specs.account.Start.{Start};
-ghost use Rattle.xv_model.specs.source.Pairs.{pq};
+ghost use Rattle.xv_model.specs.source.Pairs.{old_pair};
 ghost use Rattle.xv_model.specs.source.Notices.{outstanding};
 ghost use Rattle.xv_model.specs.source.Eas.{initialised};
 
@@ -25,10 +25,11 @@ pub trait Known {
         requires { s < sources self.now }
         ensures { (z : Start) (h : List Entry) → knows self.now z h → result ≡ initialised z h s };
 
-    /// The pair of a source.
-    fn pq(&self, s: u32) -> u8
+    /// The pair that a source had before the last set of it.
+    fn old_pair(&self, s: u32) -> u8
         requires { s < sources self.now }
-        ensures { (z : Start) (h : List Entry) → knows self.now z h → result ≡ pq z h s };
+        ensures value { (z : Start) (h : List Entry) → knows self.now z h → result ≡ old_pair z h s }
+        ensures pair { result < 4 };
 }
 
 /// What represents a list of fabric entries that go on from a start record.

@@ -2,13 +2,17 @@
 
 ghost use Rattle.xv_model.specs.account.Scripts.{EachHasAccount, OneAccount};
 ghost use Rattle.xv_model.specs.laws.Acknowledgements.{EachAcceptsMostFavoured, EachAnswersAccepted, EachLeavesAll, EachLeavesAlone};
+ghost use Rattle.xv_model.specs.laws.DeviceExample.{AnswerInTurn};
 ghost use Rattle.xv_model.specs.laws.Entering.{EachEntersOnce, RoutedInOrder, RoutedOnceForwarded};
 ghost use Rattle.xv_model.specs.laws.Escalations.{EachEscalationRuns, EachSilentEscalates, EachUndeliveredEscalates};
 ghost use Rattle.xv_model.specs.laws.Hypercalls.{EachRefusedDoesNothing};
+ghost use Rattle.xv_model.specs.laws.Migrations.{EachQueueGoesOn, EachStateGoesOn, EachTellsOldPairs};
 ghost use Rattle.xv_model.specs.laws.Notices.{EachHasFewMessages, EachQuietIsQuiet, EachTakesFew};
 ghost use Rattle.xv_model.specs.laws.Pending.{EachHasOneUser, EachIsInRing, EachIsKeptOff, EachIsShown, EachIsUser, EachStaysPending};
 ghost use Rattle.xv_model.specs.laws.QueueExample.{ReadsTwoQueues};
 ghost use Rattle.xv_model.specs.laws.Queues.{EachReadsAsWritten, EachReadsNext, StartIsFresh, ZeroedIsFresh, ZerosAreFresh};
+ghost use Rattle.xv_model.specs.laws.Refusals.{EachLookLeavesAll, EachRefusalLeavesAll};
+ghost use Rattle.xv_model.specs.laws.Servers.{EachHasServers};
 ghost use Rattle.xv_model.specs.laws.Triggers.{CoalescedComesAgain, EachTriggerAccounted, NumberedInOrder};
 
 /// Of lines and the accounts that follow them.
@@ -84,7 +88,32 @@ pub fn escalations()
     ensures runs { EachEscalationRuns }
 {}
 
-/// Of hypercalls: one that is refused has no outputs, and changes nothing.
+/// Of hypercalls: one that is refused has no outputs, and leaves each EAS and the configuration of each END as it was.
 pub fn hypercalls()
     ensures refused { EachRefusedDoesNothing }
+{}
+
+/// Of the KVM device: accounts in which its calls are refused in each way, and are accepted.
+pub fn device_example()
+    ensures example { AnswerInTurn }
+{}
+
+/// Of operations that are refused, or that find nothing to do, and of those that answer what they looked at (`peek`,
+/// `kvmget`, `vpget`): all is as before.
+pub fn refusals()
+    ensures refused { EachRefusalLeavesAll }
+    ensures looks { EachLookLeavesAll }
+{}
+
+/// Of what a migration rests on: the pair that a source had before it was set is told, and a queue or a processor's state
+/// that is got on one board and set on another goes on there.
+pub fn migrations()
+    ensures old_pairs { EachTellsOldPairs }
+    ensures queues { EachQueueGoesOn }
+    ensures states { EachStateGoesOn }
+{}
+
+/// Of the processors that are connected: they are below the number of servers.
+pub fn servers()
+    ensures servers { EachHasServers }
 {}

@@ -1,5 +1,6 @@
 //! What the tests share: the board that they try.
 
+mod attributes;
 mod configurations;
 mod flags;
 mod hypercalls;

@@ -2,10 +2,11 @@
 
 ghost use Rattle.std.specs.Prelude.{◌≡◌, ◌*◌, ◌^◌, nat_lt, true};
 ghost use Rattle.xv_model.specs.processor.RingOps.{is_size};
-ghost use Rattle.xv_model.specs.board.Validity.{valid as is_valid, has_op, end_count, is_queue_shift, is_queue as may_be_queue, has_queue as has_its_queue, has_no_escalation as lacks_escalation, has_nothing, is_escalation_end as may_be_escalation_end, has_escalation, notifies_one, may_be_configured, valid_config as may_be_config, has_access as has_its_access};
+ghost use Rattle.xv_model.specs.board.Validity.{valid as is_valid, has_op, end_count, is_queue_shift, is_queue as may_be_queue, has_queue as has_its_queue, has_no_escalation as lacks_escalation, has_nothing, is_escalation_end as may_be_escalation_end, has_escalation, notifies_one, may_be_configured, may_be_set, valid_config as may_be_config, has_access as has_its_access, has_value};
 
 use crate::board::Board;
-use crate::operations::{Access, EndConfig, EndFlags, Op, PqOp};
+use crate::kvm::GRP_EQ_CONFIG;
+use crate::operations::{Access, AttrValue, EndConfig, EndFlags, Op, PqOp};
 use crate::pages::END_PAGES;
 use crate::tima::TM_PAGES;
 use bitflags::Flags;
@@ -50,14 +51,15 @@ fn is_queue(board: &Board, addr: u64, shift: u32) -> bool
     addr % size == 0 && addr <= ram && ram - addr >= size
 }
 
-/// Whether a configuration has a queue where it has q, and none where it hasn't.
+/// Whether a configuration has a queue where it has q, and none where it hasn't. The first entry is one of the first
+/// two times through the queue.
 fn has_queue(board: &Board, config: &EndConfig) -> bool
     ensures { result ≡ has_its_queue board.now config.now }
 {
     if config.flags.contains(EndFlags::ENQUEUE) {
-        is_queue(board, config.qaddr, config.qshift)
+        is_queue(board, config.qaddr, config.qshift) && config.start < 2u64 << (config.qshift - 2)
     } else {
-        config.qaddr == 0 && config.qshift == 0
+        config.qaddr == 0 && config.qshift == 0 && config.start == 0
     }
 }
 
@@ -68,7 +70,7 @@ fn has_no_escalation(config: &EndConfig) -> bool
     config.esc == 0 && config.esc_eisn == 0
 }
 
-/// Whether all fields but those of the queue and its start are 0.
+/// Whether all fields but those of the queue are 0.
 fn is_empty(config: &EndConfig) -> bool
     ensures { result ≡ has_nothing config.now }
 {
@@ -106,7 +108,7 @@ fn notifies(board: &Board, config: &EndConfig) -> bool
 pub fn valid_config(board: &Board, config: &EndConfig) -> bool
     ensures { result ≡ may_be_config board.now config.now }
 {
-    if config.start != 0 || !has_queue(board, config) {
+    if !has_queue(board, config) {
         return false;
     }
     if config.flags.contains(EndFlags::VALID) {
@@ -122,6 +124,13 @@ pub fn may_configure(board: &Board, e: u32, config: &EndConfig) -> bool
 {
     valid_config(board, config)
         && !(config.flags.contains(EndFlags::ESCALATE) && is_escalation_end(e))
+}
+
+/// Whether END `e` of a board may be told so by the operation on it, which has its queue begin with entry 0.
+fn may_set(board: &Board, e: u32, config: &EndConfig) -> bool
+    ensures { result ≡ may_be_set board.now e config.now }
+{
+    config.start == 0 && may_configure(board, e, config)
 }
 
 /// Whether an access may have this many bytes.
@@ -152,8 +161,17 @@ fn has_access(page: u8, size: u8, access: Access) -> bool
     }
 }
 
-/// Whether each number of an operation is in range on a board. It is false for an operation that isn't
-/// built yet.
+/// Whether an attribute of a group can be set to a value: the fields of a queue are for queues alone.
+fn may_have_value(group: u32, value: &AttrValue) -> bool
+    ensures { result ≡ has_value group value.now }
+{
+    match value {
+        AttrValue::Number { .. } => true,
+        AttrValue::Queue { .. } => group == GRP_EQ_CONFIG,
+    }
+}
+
+/// Whether each number of an operation is in range on a board.
 pub fn valid(board: &Board, op: &Op) -> bool
     ensures { result ≡ is_valid board.now op.now }
 {
@@ -162,10 +180,17 @@ pub fn valid(board: &Board, op: &Op) -> bool
         Op::Esb { s, page, .. } => { *s < board.limits.sources && *page < board.source_pages() }
         Op::EndEsb { e, page, .. } => has_end(board, *e) && *page < END_PAGES,
         Op::Route { s } | Op::Quiet { s } => *s < board.limits.sources,
-        Op::EndSet { e, config } => has_end(board, *e) && may_configure(board, *e, config),
+        Op::EndSet { e, config } => has_end(board, *e) && may_set(board, *e, config),
         Op::Read { e } => has_end(board, *e),
-        Op::Take { .. } | Op::Hcall { .. } | Op::Peek { .. } | Op::Zero { .. } => true,
-        Op::Connect { v } | Op::Save { v } => *v < board.limits.processors,
+        Op::Take { .. }
+        | Op::Hcall { .. }
+        | Op::AttrGet { .. }
+        | Op::Peek { .. }
+        | Op::Zero { .. } => true,
+        Op::Connect { v } | Op::Save { v } | Op::VpGet { v } | Op::VpSet { v, .. } => {
+            *v < board.limits.processors
+        }
+        Op::AttrSet { group, value, .. } => may_have_value(*group, value),
         Op::Restore { v, t } => *v < board.limits.processors && *t < board.limits.threads,
         Op::Tima {
             t,
@@ -174,6 +199,5 @@ pub fn valid(board: &Board, op: &Op) -> bool
             size,
             access,
         } => { *t < board.limits.threads && has_access(*page, *size, *access) }
-        _ => false,
     }
 }

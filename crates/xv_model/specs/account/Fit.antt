@@ -1,4 +1,4 @@
--- Which start records are fit to go on from: what escalates there has an escalation END, which doesn't escalate.
+-- Which start records are fit to go on from: what escalates there has an escalation END, which doesn't escalate; and pairs are pairs.
 use Rattle.std.specs.Prelude.{ℕ, ◌≡◌, ◌<◌, ◌^◌, Bool, true, false, All}
 use Rattle.xv_model.specs.declared.operations.EndConfig.{EndConfig}
 use Rattle.xv_model.specs.declared.messages.Message.{Message}
@@ -26,3 +26,5 @@ IsFit (message.Escalate e flags esc esc_eisn origin) = IsFitMessage true esc esc
 pub record IsFitStart (z : Start) : Type 0 where
   pub configs : (e : ℕ) → IsFitConfig e (z.end_config e)
   pub messages : All IsFit z.flight
+  pub pairs : (s : ℕ) → z.pair s < 4
+  pub old_pairs : (s : ℕ) → z.old_pair s < 4

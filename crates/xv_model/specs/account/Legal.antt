@@ -22,6 +22,7 @@ use Rattle.xv_model.specs.route.Taking.{take_outcome}
 use Rattle.xv_model.specs.processor.Moves.{connect_outcome, restore_outcome, save_outcome}
 use Rattle.xv_model.specs.processor.Accesses.{tima_outcome}
 use Rattle.xv_model.specs.call.Hypercalls.{hcall_reply}
+use Rattle.xv_model.specs.device.Answers.{attribute_code, attribute_outcome, vp_state_code, vp_state_outcome}
 use Rattle.xv_model.specs.board.Validity.{valid}
 
 -- what an operation answers whose cell this is, and that finds the pair q and n forwards
@@ -38,7 +39,7 @@ cell_after z h a = pq_row a.op (is_level z.board a.source) (asserted z h a.sourc
 abbrev pub word_answer : Start → List Entry → WordAccess → Outcome
 word_answer z h a = answer_by (cell_after z h a) (pq z h a.source) (forwards z h a.source)
 
--- what an operation on the rest of the fabric answers; one that isn't built has no row, and no legal account has one
+-- what an operation on the rest of the fabric answers; the others have no row here
 abbrev pub fabric_answer : Start → List Entry → Op → Outcome
 fabric_answer z h (op.Esb s page offset store) = untouched_answer store
 fabric_answer z h (op.EndEsb e page offset store) = end_page_answer z h e page offset store
@@ -52,6 +53,10 @@ fabric_answer z h (op.Tima t page offset size access) = tima_outcome z h t page 
 fabric_answer z h (op.Read e) = read_outcome z h e
 fabric_answer z h (op.Peek addr) = peek_outcome z h addr
 fabric_answer z h (op.Zero addr len) = zero_outcome z.board addr len
+fabric_answer z h (op.AttrSet group number value) = out.Code (attribute_code z h group number value)
+fabric_answer z h (op.AttrGet group number) = attribute_outcome z h group number
+fabric_answer z h (op.VpGet v) = vp_state_outcome z h v
+fabric_answer z h (op.VpSet v cppr ipb) = out.Code (vp_state_code z h v)
 fabric_answer z h _ = out.BadAccess
 
 -- what an operation answers, by the part that it is on

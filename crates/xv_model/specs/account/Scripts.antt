@@ -30,11 +30,11 @@ Follows z (line ∷ lines) h = (before : List Entry) × (part : List Entry) × (
 abbrev pub OneAccount : Type 0
 OneAccount = (z : Start) (lines : List Line) (h g : List Entry) → IsLegal z h → IsLegal z g → Follows z lines h → Follows z lines g → h ≡ g
 
--- a line ends: each entry that it makes in a legal account brings a measure down; its operations are valid on the board, and its actor is one of the board's
+-- a line ends: each entry that it makes in a legal account brings a measure down; the operations that it makes there are valid on the board, and its actor is one of the board's
 pub record Ends (z : Start) (line : Line) : Type 0 where
   pub measure : List Entry → List Entry → ℕ
   pub actor : line.actor < z.board.limits.actors
-  pub valid_ops : (before part : List Entry) (o : Op) → Begins z line before part → line.next z before part ≡ Some o → valid z.board o ≡ true
+  pub valid_ops : (before part : List Entry) (o : Op) → Begins z line before part → IsLegal z (part ++ before) → line.next z before part ≡ Some o → valid z.board o ≡ true
   pub falls : (before part : List Entry) (x : Entry) → Begins z line before (x ∷ part) → IsLegal z (x ∷ (part ++ before)) → measure before (x ∷ part) < measure before part
 
 -- lines have a legal account that follows them

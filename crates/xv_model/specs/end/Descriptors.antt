@@ -5,6 +5,10 @@ use Rattle.xv_model.specs.declared.hypercalls.flags.TheConstants.{END_ALWAYS_NOT
 use Rattle.xv_model.specs.declared.hypercalls.arguments.SetQueueConfigArgs.{SetQueueConfigArgs}
 use Rattle.xv_model.specs.declared.hypercalls.Call.{Call}
 use Rattle.xv_model.specs.declared.hypercalls.Call.TheVariants as call
+use Rattle.xv_model.specs.declared.kvm.arguments.EqArgs.{EqArgs}
+use Rattle.xv_model.specs.declared.kvm.Setting.{Setting}
+use Rattle.xv_model.specs.declared.kvm.Setting.TheVariants as setting
+use Rattle.xv_model.specs.declared.operations.EqFields.{EqFields}
 use Rattle.xv_model.specs.declared.operations.EndConfig.{EndConfig}
 use Rattle.xv_model.specs.declared.operations.EndFlags.{EndFlags}
 use Rattle.xv_model.specs.declared.operations.Op.{Op}
@@ -15,7 +19,9 @@ use Rattle.xv_model.specs.declared.entries.Entry.{Entry}
 use Rattle.xv_model.specs.account.Start.{Start, no_config}
 use Rattle.xv_model.specs.call.Arguments.{end_of}
 use Rattle.xv_model.specs.call.Accepted.{call_in}
+use Rattle.xv_model.specs.device.Accepted.{setting_in}
 use Rattle.xv_model.specs.end.Flags.{has_bit}
+use Rattle.xv_model.specs.board.Validity.{entries_of}
 
 -- a configuration: an END is told what to do, or each one is reset
 pub data Configuration : Type 0 where
@@ -53,9 +59,41 @@ configuration_by (call.SetQueueConfig c) = Some (Told (end_of c.target c.priorit
 configuration_by (call.Reset c) = Some EachReset
 configuration_by _ = None
 
+-- whether the KVM device's queue attribute resets an END by its size
+abbrev pub resets_end : EqFields → Bool
+resets_end eq = eq.qshift == 0
+
+-- the number of the entry that has a toggle and an index: the toggle is the generation, which is 1 the first time through the queue
+abbrev pub first_entry : EqFields → ℕ
+first_entry eq = if eq.qtoggle == 1 then eq.qindex else entries_of eq.qshift + eq.qindex
+
+-- the configuration with a queue that it gives an END: v, q, n and b
+abbrev pub queue_set : EqArgs → EndConfig
+queue_set c = record {
+  flags = record { 0 = 1 + 2 + 4 + 8 };
+  vp = c.id.server;
+  priority = c.id.priority;
+  qaddr = c.eq.qaddr;
+  qshift = c.eq.qshift;
+  start = first_entry c.eq;
+  esc = 0;
+  esc_eisn = 0;
+}
+
+-- what it sets an END to (Linux's arch/powerpc/kvm/book3s_xive_native.c, kvmppc_xive_native_set_queue_config)
+abbrev pub config_set : EqArgs → EndConfig
+config_set c = if resets_end c.eq then no_config else queue_set c
+
+-- the configuration that an accepted setting is, where it is one: a reset resets each END (kvmppc_xive_reset)
+abbrev pub configuration_set : Setting → Option Configuration
+configuration_set (setting.EqConfig c) = Some (Told (end_of c.id.server c.id.priority) (config_set c))
+configuration_set setting.Reset = Some EachReset
+configuration_set _ = None
+
 -- the configuration, where an entry is one
 abbrev pub configuration_in : Op → Outcome → Option Configuration
 configuration_in (op.EndSet e c) out.Fine = Some (Told e c)
+configuration_in (op.AttrSet group number value) u = option_and_then configuration_set (setting_in (op.AttrSet group number value) u)
 configuration_in o u = option_and_then configuration_by (call_in o u)
 
 -- what a configuration says of e, where it is one of e

@@ -1,5 +1,5 @@
 -- The flags of an END (POWER9's XIVE, "event notification descriptor", word 0; QEMU's include/hw/ppc/xive_regs.h).
-use Rattle.std.specs.Prelude.{ℕ, ◌==◌, Bool}
+use Rattle.std.specs.Prelude.{ℕ, ◌==◌, ◌&&◌, Bool}
 use Rattle.std.specs.Int.RustNames.{bit_and}
 use Rattle.xv_model.specs.declared.operations.EndConfig.{EndConfig}
 use Rattle.xv_model.specs.declared.operations.EndFlags.{EndFlags}
@@ -27,6 +27,10 @@ is_valid c = has_bit c.flags.0 1
 -- q: what is routed to it is written into its queue
 abbrev pub enqueues : EndConfig → Bool
 enqueues c = has_bit c.flags.0 2
+
+-- v and q: it has an event queue
+abbrev pub has_event_queue : EndConfig → Bool
+has_event_queue c = is_valid c && enqueues c
 
 -- n: it notifies whatever its state is
 abbrev pub always_notifies : EndConfig → Bool

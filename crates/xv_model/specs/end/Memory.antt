@@ -1,6 +1,6 @@
 -- Memory: where the entries of a queue lie, the words that they are (QEMU's hw/intc/xive.c, xive_end_enqueue), and the word at an address.
 -- A word has 4 bytes and is big-endian; an address is in bytes.
-use Rattle.std.specs.Prelude.{ℕ, ◌==◌, ◌+◌, ◌-◌, ◌*◌, ◌^◌, ◌/◌, ◌%◌, ◌&&◌, nat_lt, nat_le, if◌then◌else◌, List, [], ◌∷◌, Option, Some, None}
+use Rattle.std.specs.Prelude.{ℕ, ◌==◌, ◌+◌, ◌*◌, ◌^◌, ◌/◌, ◌%◌, ◌&&◌, nat_lt, nat_le, if◌then◌else◌, List, [], ◌∷◌, Option, Some, None}
 use Rattle.std.specs.Option.{option_map_or, option_or}
 use Rattle.xv_model.specs.declared.board.Board.{Board}
 use Rattle.xv_model.specs.declared.operations.EndConfig.{EndConfig}
@@ -14,11 +14,11 @@ use Rattle.xv_model.specs.declared.outcomes.Outcome.TheVariants as out
 use Rattle.xv_model.specs.declared.entries.Entry.{Entry}
 use Rattle.xv_model.specs.account.Start.{Start}
 use Rattle.xv_model.specs.account.Kinds.{run_of}
-use Rattle.xv_model.specs.board.Validity.{ram_size, fits}
+use Rattle.xv_model.specs.board.Validity.{ram_size, fits, entries_of}
 
--- how many entries a queue has; each has 4 bytes
+-- how many entries a queue has
 abbrev pub entries : EndConfig → ℕ
-entries c = 2 ^ (c.qshift - 2)
+entries c = entries_of c.qshift
 
 -- the address of the entry of a number: the queue wraps
 abbrev pub place : EndConfig → ℕ → ℕ

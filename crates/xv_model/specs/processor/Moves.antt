@@ -1,7 +1,7 @@
 -- The moves of contexts, and why they are refused: the first reason that holds (Linux's KVM, arch/powerpc/kvm/book3s_xive.c; POWER9's XIVE, "OS context").
 use Rattle.std.specs.Prelude.{ℕ, pos, ◌==◌, ◌-◌, ◌&&◌, nat_le, nat_lt, not, Bool, true, false, if◌then◌else◌, List, Option, Some, None}
 use Rattle.std.specs.Option.{option_map_or}
-use Rattle.xv_model.specs.declared.kvm.TheConstants.{EINVAL}
+use Rattle.xv_model.specs.declared.kvm.errors.TheConstants.{EINVAL}
 use Rattle.xv_model.specs.declared.outcomes.Phase.{Phase}
 use Rattle.xv_model.specs.declared.outcomes.Phase.TheVariants.{Restored, Pulled}
 use Rattle.xv_model.specs.declared.outcomes.MoveRefused.TheVariants.{NotValid, VpBusy, RingBusy, NotPulled, NotRestored, NoContext}

@@ -11,6 +11,7 @@ use Rattle.xv_model.specs.declared.outcomes.Outcome.TheVariants as out
 use Rattle.xv_model.specs.declared.entries.Entry.{Entry}
 use Rattle.xv_model.specs.account.Start.{Start}
 use Rattle.xv_model.specs.call.Accepted.{is_success}
+use Rattle.xv_model.specs.device.Accepted.{servers_in}
 use Rattle.xv_model.specs.declared.tima.RingOp.{RingOp}
 use Rattle.xv_model.specs.declared.tima.RingOp.TheVariants.{Push, Pull}
 use Rattle.xv_model.specs.processor.RingOps.{RingAccess, ring_access}
@@ -25,9 +26,10 @@ abbrev pub is_connected : Start → List Entry → ℕ → Bool
 is_connected z [] v = z.is_connected v
 is_connected z (x ∷ h) v = option_map_or (λ u. u == v) (connected_in x.op x.outcome) false || is_connected z h v
 
--- how many processors can be connected: no operation that is built changes it
+-- how many processors can be connected: as many as was set last
 abbrev pub servers : Start → List Entry → ℕ
-servers z h = z.servers
+servers z [] = z.servers
+servers z (x ∷ h) = option_map_or (λ n. n) (servers_in x.op x.outcome) (servers z h)
 
 -- the CAM word of a processor whose context is valid
 abbrev pub cam_of : ℕ → ℕ

@@ -135,6 +135,31 @@ fn valid_queues(rt: HostRuntime) {
     assert!(rt; !valid_config(&board, &at_the_top));
 }
 
+/// The END with a queue of 64 KiB, which has 16,384 entries, beginning with an entry.
+fn beginning(start: u64) -> EndConfig {
+    EndConfig {
+        start,
+        ..with_queue()
+    }
+}
+
+#[test]
+fn valid_first_entries(rt: HostRuntime) {
+    // one of the first two times through the queue
+    let board = small_board();
+    for start in [0, 1, 0x3fff, 0x4000, 0x7fff] {
+        assert!(rt; may_configure(&board, 0, &beginning(start)));
+    }
+    for start in [0x8000, 0x1_0000_0000, u64::MAX] {
+        assert!(rt; !may_configure(&board, 0, &beginning(start)));
+    }
+    // and the first one where it is told by the operation on the END
+    let config = beginning(0x4000);
+    assert!(rt; !valid(&board, &Op::EndSet { e: 0, config }));
+    let config = beginning(0);
+    assert!(rt; valid(&board, &Op::EndSet { e: 0, config }));
+}
+
 #[test]
 fn valid_without_queue(rt: HostRuntime) {
     let board = small_board();
@@ -155,6 +180,16 @@ fn valid_without_queue(rt: HostRuntime) {
         ..no_queue
     };
     assert!(rt; !valid_config(&board, &has_size));
+    let has_start = EndConfig {
+        start: 1,
+        ..no_queue
+    };
+    assert!(rt; !valid_config(&board, &has_start));
+    let off_with_start = EndConfig {
+        start: 1,
+        ..EndConfig::OFF
+    };
+    assert!(rt; !valid_config(&board, &off_with_start));
 }
 
 /// An END that escalates to another one.

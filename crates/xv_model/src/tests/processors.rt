@@ -1,7 +1,7 @@
 //! Which operations on processors and on messages are valid.
 
 use crate::board::Board;
-use crate::operations::{AttrValue, Op};
+use crate::operations::Op;
 use crate::tests::small_board;
 use crate::validity::valid;
 use xv_base::Limits;
@@ -65,25 +65,21 @@ fn valid_takes(rt: HostRuntime) {
 }
 
 #[test]
-fn operations_that_are_not_built(rt: HostRuntime) {
+fn valid_states(rt: HostRuntime) {
     let board = small_board();
-    let value = AttrValue::Number { value: 0 };
-    let set = Op::AttrSet {
-        group: 1,
-        attr: 1,
-        value,
+    let set = |v: u32| Op::VpSet {
+        v,
+        cppr: 0xff,
+        ipb: 0xff,
     };
-    assert!(rt; !valid(&board, &set));
-    assert!(rt; !valid(&board, &Op::AttrGet { group: 1, attr: 1 }));
-    assert!(rt; !valid(&board, &Op::VpGet { v: 0 }));
-    assert!(rt;
-        !valid(
-            &board,
-            &Op::VpSet {
-                v: 0,
-                cppr: 0xff,
-                ipb: 0
-            }
-        )
-    );
+    for v in [0, 1] {
+        assert!(rt; valid(&board, &Op::VpGet { v }));
+        assert!(rt; valid(&board, &set(v)));
+    }
+    for v in [2, 0x400, u32::MAX] {
+        assert!(rt; !valid(&board, &Op::VpGet { v }));
+        assert!(rt; !valid(&board, &set(v)));
+    }
+    assert!(rt; !valid(&one_processor(), &Op::VpGet { v: 1 }));
+    assert!(rt; !valid(&one_processor(), &set(1)));
 }
