@@ -1,5 +1,5 @@
 -- What is kept of sources: the EAS of each, how it starts, what is in range, and which account it represents.
-use Rattle.std.specs.Prelude.{ℕ, ◌≡◌, ◌<◌, ◌^◌, true, List, length, Some, slice_get, slice_index_or}
+use Rattle.std.specs.Prelude.{ℕ, ◌≡◌, ◌<◌, ◌^◌, true, if◌then◌else◌, List, length, Some, slice_get, slice_index_or}
 use Rattle.xv_model.specs.declared.board.Board.{Board}
 use Rattle.xv_model.specs.declared.eas.Eas.{Eas}
 use Rattle.xv_model.specs.declared.entries.Entry.{Entry}
@@ -28,6 +28,10 @@ eas_in eases s = slice_index_or eases s masked_off
 -- an EAS that is masked, with all else as it was
 abbrev pub masked : Eas → Eas
 masked a = record { valid = a.valid; masked = true; end = a.end; eisn = a.eisn }
+
+-- an EAS that is masked off where it was valid
+abbrev pub cleared : Eas → Eas
+cleared a = if a.valid then masked_off else a
 
 -- the EASes represent the account: that of each source is what the account gives
 abbrev pub StandsFor : List Eas → Start → List Entry → Type 0

@@ -1,11 +1,12 @@
 //! The table of EASes.
 
-ghost use Rattle.std.specs.Prelude.{◌≡◌, ◌<◌, ℕ, List, [], IfOk, length, slice_set, vec_len};
+ghost use Rattle.std.specs.Prelude.{◌≡◌, ◌<◌, ℕ, List, [], All, IfOk, Some, length, slice_get, slice_set, vec_len};
+ghost use Rattle.xv_model.specs.declared.eas.Eas.{Eas as AnEas};
 ghost use Rattle.xv_model.specs.board.Boards.{IsBoard};
 ghost use Rattle.xv_model.specs.declared.entries.Entry.{Entry};
 ghost use Rattle.xv_model.specs.account.Start.{Start, start, first_eas as first_eas_of};
 ghost use Rattle.xv_model.specs.source.Eas.{eas, masked_off};
-ghost use Rattle.eas_table.specs.Table.{AreFirst, IsNarrow, StandsFor, eas_in, masked};
+ghost use Rattle.eas_table.specs.Table.{AreFirst, IsEas, IsNarrow, StandsFor, cleared, eas_in, masked};
 
 use std::alloc::Global;
 use std::marker::Model;
@@ -114,5 +115,19 @@ impl EasTable {
         ensures { self.new ≡ slice_set self.old s masked_off }
     {
         self.eases[s as usize] = MASKED_OFF;
+    }
+
+    /// Clears the EAS of each source of the board that has a valid one.
+    pub fn clear_valid(&mut self, board: &Board)
+        requires { length self.old ≡ board.now.limits.sources }
+        ensures eases { (s : ℕ) (a : AnEas) → slice_get self.old s ≡ Some a → slice_get self.new s ≡ Some (cleared a) }
+        ensures len { length self.new ≡ length self.old }
+        ensures in_range { IsBoard board.now → All (IsEas board.now) self.old → All (IsEas board.now) self.new }
+    {
+        for s in 0..board.limits.sources {
+            if self.get(s).valid {
+                self.clear(s);
+            }
+        }
     }
 }
