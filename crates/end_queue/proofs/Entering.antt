@@ -1,8 +1,8 @@
 -- What an entry makes of what an account gives for an END.
-use Rattle.std.proofs.Common.{ℕ, ◌≡◌, ◌+◌, List, [], ◌∷◌, ◌++◌, length, Option, Some, None, refl, sym, ◌∙◌, ap, slice_get}
+use Rattle.std.proofs.Common.{ℕ, ℤ, ◌≡◌, ◌+◌, List, [], ◌∷◌, ◌++◌, length, Option, Some, None, refl, sym, ◌∙◌, ap, slice_get}
 use Rattle.std.proofs.lemmas.List.{append-nil}
 use Rattle.std.specs.Option.{option_map_or}
-use Rattle.xv_model.specs.declared.hypercalls.Call.{Call}
+use Rattle.xv_model.specs.declared.operations.AttrValue.{AttrValue}
 use Rattle.xv_model.specs.declared.operations.EndConfig.{EndConfig}
 use Rattle.xv_model.specs.declared.operations.Op.TheVariants as op
 use Rattle.xv_model.specs.declared.outcomes.HReply.{HReply}
@@ -45,7 +45,7 @@ told : (z : Start) (h : List Entry) (e : ℕ) (m : Option EndConfig) → told_by
 told z h e (Some c) = refl
 told z h e None = nothing_entered z h e
 
--- an END after it was set, and after a hypercall: it is configured as they tell it, where they do
+-- an END after it was set, after a hypercall, and after an attribute was set: it is configured as they tell it, where they do
 pub after_set : (z : Start) (h : List Entry) (actor end : ℕ) (c : EndConfig) (e : ℕ) →
     let x : Entry = record { actor = actor; op = op.EndSet end c; outcome = out.Fine } in record_of z (x ∷ h) e ≡ option_map_or configured (config_by e x) (record_of z h e)
 after_set z h actor end c e = told z h e (config_by e (record { actor = actor; op = op.EndSet end c; outcome = out.Fine }))
@@ -53,6 +53,10 @@ after_set z h actor end c e = told z h e (config_by e (record { actor = actor; o
 pub after_call : (z : Start) (h : List Entry) (actor number : ℕ) (args : List ℕ) (r : HReply) (e : ℕ) →
     let x : Entry = record { actor = actor; op = op.Hcall number args; outcome = out.Reply r } in record_of z (x ∷ h) e ≡ option_map_or configured (config_by e x) (record_of z h e)
 after_call z h actor number args r e = told z h e (config_by e (record { actor = actor; op = op.Hcall number args; outcome = out.Reply r }))
+
+pub after_setting : (z : Start) (h : List Entry) (actor group number : ℕ) (value : AttrValue) (code : ℤ) (e : ℕ) →
+    let x : Entry = record { actor = actor; op = op.AttrSet group number value; outcome = out.Code code } in record_of z (x ∷ h) e ≡ option_map_or configured (config_by e x) (record_of z h e)
+after_setting z h actor group number value code e = told z h e (config_by e (record { actor = actor; op = op.AttrSet group number value; outcome = out.Code code }))
 
 -- the entry changes each END by a rule
 pub each_stands : (ends ends' : List EndRecord) (z : Start) (h : List Entry) (x : Entry) (rule : ℕ → EndRecord → EndRecord) → StandsFor ends z h →

@@ -1,10 +1,12 @@
 -- The queues of a board's ENDs: how large they are, and where they lie.
-use Rattle.std.proofs.Common.{ℕ, ◌≡◌, ◌≤◌, ◌+◌, ◌-◌, ◌*◌, ◌^◌, ◌%◌, true, ◌⊎◌, inl, inr, sym, subst, arith}
+use Rattle.std.proofs.Common.{ℕ, ◌≡◌, ◌==◌, ◌<◌, ◌≤◌, ◌&&◌, ◌+◌, ◌-◌, ◌*◌, ◌^◌, ◌%◌, nat_lt, Bool, true, false, if◌then◌else◌, ◌⊎◌, inl, inr, sym, subst, arith}
+use Rattle.std.proofs.lemmas.Bool.{and_parts, eqb-true, ltb-true}
 use Rattle.std.proofs.lemmas.Bool.Decides.{nat_tests}
+use Rattle.std.proofs.Math.Pow.{pow_mono}
 use Rattle.xv_model.specs.declared.board.Board.{Board}
 use Rattle.xv_model.specs.declared.operations.EndConfig.{EndConfig}
 use Rattle.xv_model.specs.board.Boards.{IsBoard}
-use Rattle.xv_model.specs.board.Validity.{ram_size, is_queue_shift, valid_config}
+use Rattle.xv_model.specs.board.Validity.{ram_size, is_queue, is_queue_shift, has_queue as has_its_queue, valid_config}
 use Rattle.xv_model.specs.end.Flags.{enqueues}
 use Rattle.end_queue.specs.Ends.{has_queue, IsSized, IsNarrow, HasPage}
 
@@ -40,10 +42,35 @@ sized_by b c is p which = record { least = by which; most = below which; addr = 
     below (inr (inr (inl e))) = omega arith
     below (inr (inr (inr e))) = omega arith
 
+-- the first two times through a queue of one of the four sizes
+first_by : (shift start : ℕ) → (shift ≡ 12) ⊎ ((shift ≡ 16) ⊎ ((shift ≡ 21) ⊎ (shift ≡ 24))) → start < 2 * 2 ^ (shift - 2) → start < 2 ^ 62
+first_by shift start which below =
+    let least : shift ≤ 24 = most which in
+    let few : 2 ^ (shift - 2) ≤ 2 ^ 22 = pow_mono {i = shift - 2} {j = 22} (omega (arith, least)) in
+    omega (arith, few, below)
+  where
+    most : (shift ≡ 12) ⊎ ((shift ≡ 16) ⊎ ((shift ≡ 21) ⊎ (shift ≡ 24))) → shift ≤ 24
+    most (inl e) = omega arith
+    most (inr (inl e)) = omega arith
+    most (inr (inr (inl e))) = omega arith
+    most (inr (inr (inr e))) = omega arith
+
+-- the first entry of a queue that a board can have, or of none
+first_below : (b : Board) (c : EndConfig) (q : Bool) → (if q then is_queue b c.qaddr c.qshift && nat_lt c.start (2 * 2 ^ (c.qshift - 2)) else (c.qaddr == 0) && ((c.qshift == 0) && (c.start == 0))) ≡ true → c.start < 2 ^ 62
+first_below b c true is =
+    let p = and_parts (is_queue b c.qaddr c.qshift) (nat_lt c.start (2 * 2 ^ (c.qshift - 2))) is in
+    let size = and_parts (is_queue_shift c.qshift) _ p.0 in
+    first_by c.qshift c.start (sizes c.qshift size.0) (ltb-true c.start (2 * 2 ^ (c.qshift - 2)) p.1)
+first_below b c false is =
+    let p = and_parts (c.qaddr == 0) ((c.qshift == 0) && (c.start == 0)) is in
+    let k = and_parts (c.qshift == 0) (c.start == 0) p.1 in
+    let none : c.start ≡ 0 = eqb-true c.start 0 k.1 in
+    omega (arith, none)
+
 -- a valid configuration is narrow
 pub narrow : (b : Board) (c : EndConfig) → IsBoard b → valid_config b c ≡ true → IsNarrow c
 narrow b c is v = record {
-  start = grind (arith, nat_tests);
+  start = first_below b c (enqueues c) (and_parts (has_its_queue b c) _ v).0;
   sized = λ q. let p = placed b c v q in sized_by b c is p (sizes c.qshift p.shift);
 }
 

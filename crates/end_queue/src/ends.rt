@@ -97,6 +97,13 @@ impl Ends {
         self.records[e as usize] = FIRST_END;
     }
 
+    /// Makes each END what it was at the start.
+    pub fn reset_all(&mut self)
+        ensures { self.new ≡ replicate (length self.old) first_end }
+    {
+        self.records.fill(FIRST_END);
+    }
+
     /// The configuration of an END.
     pub fn config(&self, e: u32) -> &EndConfig
         requires { e < length self.now }

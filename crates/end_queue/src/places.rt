@@ -11,6 +11,7 @@ pub(crate) fn entries(config: &EndConfig) -> u64
     requires { IsSized config.now }
     ensures value { result ≡ entries_of config.now }
     ensures some { 0 < result }
+    ensures most { result ≤ 2 ^ 22 }
 {
     1 << (config.qshift - 2)
 }

@@ -30,6 +30,14 @@ pub struct QueueEntry {
 }
 
 impl Ends {
+    /// Whether an END has a queue: it is valid, and writes into one.
+    pub fn has_queue(&self, e: u32) -> bool
+        requires { e < length self.now }
+        ensures { result ≡ has_queue (end_in self.now e).config }
+    {
+        is_queued(&self.records[e as usize].config)
+    }
+
     /// The entry that is written next into the queue of an END.
     pub fn next_entry(&self, e: u32) -> QueueEntry
         requires end { e < length self.now }
@@ -38,6 +46,7 @@ impl Ends {
         ensures generation { result.generation ≡ generation_of (end_in self.now e).config (next_number (end_in self.now e)) }
         ensures bit { result.generation < 2 }
         ensures index { result.index ≡ next_number (end_in self.now e) % entries_of (end_in self.now e).config }
+        ensures within { result.index < 2 ^ 22 }
     {
         let end = &self.records[e as usize];
         let number = end.config.start + end.written;
