@@ -1,1 +1,2 @@
--- No lemmas.
+-- Lemmas.
+pub mod Connected

@@ -1,2 +1,3 @@
--- What is kept of virtual processors.
+-- What is kept of virtual processors, and which account it represents.
+pub mod Accounts
 pub mod Vps

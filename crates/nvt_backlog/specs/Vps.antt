@@ -1,4 +1,4 @@
--- What is kept of virtual processors: how each starts, what a connection makes of it, and which account has the same ones connected.
+-- What is kept of virtual processors: how each starts, what a connection and a state make of it, and which account has the same ones connected.
 use Rattle.std.specs.Prelude.{ℕ, ◌≡◌, ◌<◌, not, Bool, true, false, List, length, slice_index_or}
 use Rattle.xv_model.specs.declared.board.Board.{Board}
 use Rattle.xv_model.specs.declared.entries.Entry.{Entry}
@@ -6,6 +6,7 @@ use Rattle.xv_model.specs.declared.outcomes.Phase.TheVariants.{Saved}
 use Rattle.xv_model.specs.account.Start.{Start}
 use Rattle.xv_model.specs.board.Boards.{is_in}
 use Rattle.xv_model.specs.processor.Phases.{is_connected}
+use Rattle.xv_model.specs.processor.Registers.{stored_cppr}
 use Rattle.nvt_backlog.specs.declared.vp.Vp.{Vp}
 
 -- the number of servers, and the processors
@@ -32,6 +33,10 @@ vp_in vps v = slice_index_or vps v (saved_vp false)
 -- a processor that is connected now, with all else as it was
 abbrev pub connected : Vp → Vp
 connected vp = record { valid = true; phase = vp.phase; cppr = vp.cppr; ipb = vp.ipb; backlog = vp.backlog }
+
+-- a processor with this CPPR and this IPB saved, and an empty backlog
+abbrev pub with_state : ℕ → ℕ → Vp → Vp
+with_state cppr ipb vp = record { valid = vp.valid; phase = vp.phase; cppr = stored_cppr cppr; ipb = ipb; backlog = 0 }
 
 -- the processors that are connected are those that an account has connected
 abbrev pub AreConnected : List Vp → Start → List Entry → Type 0

@@ -8,7 +8,7 @@ use std::process::Abort;
 use std::test::Fail;
 use xv_base::{Limits, NoMemory};
 use xv_model::board::{Board, Span, Spans};
-use xv_model::kvm::EINVAL;
+use xv_model::kvm::errors::EINVAL;
 use xv_model::outcomes::Phase;
 
 /// The processors of a board, of which some are unconnected. It has fewer threads than processors.
@@ -74,6 +74,11 @@ fn set(rt: &impl Abort, vps: &mut Vps, v: u32, vp: Vp) {
 fn connect(rt: &impl Abort, vps: &mut Vps, v: u32) -> i32 {
     assert!(rt; has(vps, v));
     vps.connect(v)
+}
+
+fn set_state(rt: &impl Abort, vps: &mut Vps, v: u32, cppr: u8, ipb: u8) {
+    assert!(rt; has(vps, v));
+    vps.set_state(v, cppr, ipb);
 }
 
 /// A processor at the start, connected or not.
@@ -173,5 +178,41 @@ fn numbers_of_servers(rt: HostRuntime) -> Result<(), Fail> {
     assert_eq!(rt; vps.servers(), u32::MAX);
     assert_eq!(rt; connect(&rt, &mut vps, 1), 0);
     assert_eq!(rt; vps.count(), 2);
+    Ok(())
+}
+
+#[test]
+fn which_processors_are_connected(rt: HostRuntime) -> Result<(), Fail> {
+    let all = Span { first: 0, last: 63 };
+    let mut vps = processors(rt.alloc(), 64, two_ranges(all, all))?;
+    assert!(rt; !vps.some_connected());
+    assert!(rt; !vps.is_connected(0));
+    assert_eq!(rt; connect(&rt, &mut vps, 63), 0);
+    assert!(rt; vps.some_connected());
+    assert!(rt; vps.is_connected(63));
+    for number in [0, 62, 64, (1 << 32) + 63, u64::MAX] {
+        assert!(rt; !vps.is_connected(number), "{number}");
+    }
+    let mut first = processors(rt.alloc(), 2, two_ranges(all, all))?;
+    assert_eq!(rt; connect(&rt, &mut first, 0), 0);
+    assert!(rt; first.some_connected());
+    Ok(())
+}
+
+#[test]
+fn states_that_are_set(rt: HostRuntime) -> Result<(), Fail> {
+    let mut vps = processors(rt.alloc(), 3, Spans::NONE)?;
+    set(&rt, &mut vps, 1, busy(true, Phase::Saved));
+    for (cppr, stored) in [(0, 0), (7, 7), (8, 0xff), (0xfe, 0xff), (0xff, 0xff)] {
+        set_state(&rt, &mut vps, 1, cppr, 0x18);
+        assert_eq!(rt;
+            shown(&rt, &vps, 1),
+            (true, (0, 0), stored, 0x18, 0),
+            "CPPR {cppr}"
+        );
+    }
+    assert_eq!(rt; shown(&rt, &vps, 0), first(true));
+    assert_eq!(rt; shown(&rt, &vps, 2), first(true));
+    assert_eq!(rt; vps.servers(), 3);
     Ok(())
 }
