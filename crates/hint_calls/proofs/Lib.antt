@@ -1,4 +1,3 @@
 -- Lemmas.
 pub mod Entering
-pub mod InRange
 pub mod Told

@@ -4,7 +4,7 @@ use Rattle.std.specs.Option.{option_map_or}
 use Rattle.xv_model.specs.declared.eas.Eas.{Eas}
 use Rattle.xv_model.specs.declared.hypercalls.Call.{Call}
 use Rattle.xv_model.specs.call.Accepted.{is_success}
-use Rattle.xv_model.specs.source.Eas.{eas_after, masked_off}
+use Rattle.xv_model.specs.source.Eas.{eas_after}
 use Rattle.xv_model.specs.end.Descriptors.{config_at, configuration_by}
 use Rattle.end_queue.specs.declared.ends.EndRecord.{EndRecord}
 use Rattle.end_queue.specs.Ends.{configured}
@@ -20,7 +20,3 @@ eas_by_call m s a = option_map_or (λ call. eas_after call s a) m a
 -- what is kept of END e then
 abbrev pub end_by_call : Option Call → ℕ → EndRecord → EndRecord
 end_by_call m e r = option_map_or configured (config_at e (option_and_then configuration_by m)) r
-
--- an EAS after a reset: one that is valid is masked off
-abbrev pub cleared : Eas → Eas
-cleared a = if a.valid then masked_off else a

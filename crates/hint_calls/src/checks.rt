@@ -6,12 +6,10 @@ ghost use Rattle.xv_model.specs.account.Start.{Start};
 ghost use Rattle.xv_model.specs.board.Boards.{IsBoard};
 ghost use Rattle.xv_model.specs.board.Validity.{end_count};
 ghost use Rattle.xv_model.specs.call.Arguments.{end_of as end_of_target};
-ghost use Rattle.xv_model.specs.call.Checks.{is_source as is_valid_source, is_target as is_connected_target, is_priority as is_guest_priority};
+ghost use Rattle.xv_model.specs.call.Checks.{is_source as is_valid_source, is_priority as is_guest_priority};
 ghost use Rattle.eas_table.specs.Table.{StandsFor as EasesStandFor};
-ghost use Rattle.nvt_backlog.specs.Vps.{AreConnected};
 
 use eas_table::EasTable;
-use nvt_backlog::Vps;
 use xv_base::limits::ENDS_PER_PROCESSOR;
 use xv_model::board::Board;
 use xv_model::hypercalls::flags::PRIORITY_RESERVED;
@@ -25,16 +23,6 @@ pub(crate) fn is_source(board: &Board, eas: &EasTable, lisn: u64) -> bool
     ensures narrow { IsTrue result → lisn < 2 ^ 32 }
 {
     lisn < board.limits.sources as u64 && eas.get(lisn as u32).valid
-}
-
-/// Whether a number is that of a connected processor.
-pub(crate) fn is_target(board: &Board, vps: &Vps, target: u64) -> bool
-    requires processors { length vps.now.vps ≡ board.now.limits.processors }
-    ensures value { (z : Start) (h : List Entry) → board.now ≡ z.board → AreConnected vps.now.vps z h
-        → result ≡ is_connected_target z h target }
-    ensures target { IsTrue result → target < board.now.limits.processors }
-{
-    target < board.limits.processors as u64 && vps.get(target as u32).valid
 }
 
 /// Whether a guest can have a priority: 0 to 6.

@@ -22,7 +22,7 @@ ghost use Rattle.hint_calls.specs.Accepted.{IsQueueAccepted};
 ghost use Rattle.hint_calls.specs.Changes.{accepted_by, end_by_call};
 ghost use Rattle.hint_calls.specs.Replies.{IsReply};
 
-use crate::checks::{end_of, is_priority, is_target};
+use crate::checks::{end_of, is_priority};
 use crate::pages::end_address;
 use crate::replies::{accepted, reply};
 use bitflags::Flags;
@@ -55,7 +55,7 @@ pub(crate) fn get_queue_info(board: &Board, vps: &Vps, args: &GetQueueInfoArgs) 
     if !is_priority(args.priority) {
         return reply(H_P3);
     }
-    if !is_target(board, vps, args.target) {
+    if !vps.is_connected(args.target) {
         return reply(H_P2);
     }
     let e = end_of(board, args.target, args.priority);
@@ -92,7 +92,7 @@ fn queue_config_code(board: &Board, vps: &Vps, ram: &Ram, args: &SetQueueConfigA
     if !is_priority(args.priority) {
         return H_P3;
     }
-    if !is_target(board, vps, args.target) {
+    if !vps.is_connected(args.target) {
         return H_P2;
     }
     if args.size == 0 {
@@ -235,7 +235,7 @@ pub(crate) fn get_queue_config(
     if !is_priority(args.priority) {
         return reply(H_P3);
     }
-    if !is_target(board, vps, args.target) {
+    if !vps.is_connected(args.target) {
         return reply(H_P2);
     }
     let e = end_of(board, args.target, args.priority);

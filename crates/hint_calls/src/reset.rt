@@ -12,43 +12,17 @@ ghost use Rattle.xv_model.specs.call.Hypercalls.{call_reply};
 ghost use Rattle.eas_table.specs.Table.{IsEas};
 ghost use Rattle.end_queue.specs.declared.ends.EndRecord.{EndRecord};
 ghost use Rattle.end_queue.specs.Accounts.{IsEnd};
-ghost use Rattle.end_queue.specs.Ends.{HasCountsAtMost, first_end};
-ghost use Rattle.hint_calls.specs.Changes.{accepted_by, cleared, eas_by_call, end_by_call};
+ghost use Rattle.end_queue.specs.Ends.{HasCountsAtMost};
+ghost use Rattle.hint_calls.specs.Changes.{accepted_by, eas_by_call, end_by_call};
 ghost use Rattle.hint_calls.specs.Replies.{IsReply};
 
 use crate::replies::reply;
 use eas_table::EasTable;
 use end_queue::Ends;
-use xv_base::limits::ENDS_PER_PROCESSOR;
 use xv_model::board::Board;
 use xv_model::hypercalls::arguments::ResetArgs;
 use xv_model::hypercalls::codes::{H_PARAMETER, H_SUCCESS};
 use xv_model::outcomes::HReply;
-
-/// Masks off each source with a valid EAS.
-fn clear_sources(board: &Board, eas: &mut EasTable)
-    requires sources { length eas.old ≡ board.now.limits.sources }
-    ensures eases { (s : ℕ) (a : Eas) → slice_get eas.old s ≡ Some a → slice_get eas.new s ≡ Some (cleared a) }
-    ensures len { length eas.new ≡ length eas.old }
-{
-    for s in 0..board.limits.sources {
-        if eas.get(s).valid {
-            eas.clear(s);
-        }
-    }
-}
-
-/// Resets each END.
-fn reset_ends(board: &Board, ends: &mut Ends)
-    requires board { IsBoard board.now }
-    requires ends { length ends.old ≡ end_count board.now }
-    ensures ends { (e : ℕ) → e < length ends.old → slice_get ends.new e ≡ Some first_end }
-    ensures len { length ends.new ≡ length ends.old }
-{
-    for e in 0..ENDS_PER_PROCESSOR * board.limits.processors {
-        ends.reset(e);
-    }
-}
 
 /// H_INT_RESET (h_int_reset): resets all ENDs, and masks off all sources with a valid EAS, which the guest then turns
 /// off.
@@ -76,7 +50,7 @@ pub(crate) fn reset(board: &Board, eas: &mut EasTable, ends: &mut Ends, args: &R
     if args.flags > 0 {
         return reply(H_PARAMETER);
     }
-    clear_sources(board, eas);
-    reset_ends(board, ends);
+    eas.clear_valid(board);
+    ends.reset_all();
     reply(H_SUCCESS)
 }

@@ -16,7 +16,7 @@ ghost use Rattle.hint_calls.specs.Changes.{accepted_by, eas_by_call};
 ghost use Rattle.hint_calls.specs.Replies.{IsReply};
 ghost use Rattle.hint_calls.specs.Accepted.{IsSourceAccepted};
 
-use crate::checks::{end_of, is_priority, is_source, is_target};
+use crate::checks::{end_of, is_priority, is_source};
 use crate::pages::{management_page, source_flags, trigger_page};
 use crate::replies::{accepted, reply};
 use eas_table::EasTable;
@@ -83,7 +83,7 @@ fn source_config_code(board: &Board, eas: &EasTable, vps: &Vps, args: &SetSource
     if !is_priority(args.priority) {
         return H_P4;
     }
-    if !is_target(board, vps, args.target) {
+    if !vps.is_connected(args.target) {
         return H_P3;
     }
     H_SUCCESS

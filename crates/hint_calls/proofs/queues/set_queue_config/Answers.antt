@@ -1,4 +1,4 @@
-use Rattle.std.proofs.Common.{ℕ, ◌<◌, ◌==◌, if◌then◌else◌, List, length, Some, rules, sym, ◌∙◌, ap, subst, slice_get}
+use Rattle.std.proofs.Common.{ℕ, ◌<◌, ◌==◌, if◌then◌else◌, List, length, Some, rules, arith, sym, ◌∙◌, ap, subst, slice_get}
 use Rattle.std.specs.Prelude.{All}
 use Rattle.std.proofs.lemmas.List.Elements.{All-set}
 use Rattle.xv_model.specs.declared.hypercalls.Call.TheVariants.{SetQueueConfig}
@@ -7,11 +7,15 @@ use Rattle.xv_model.specs.end.Descriptors.{config_told}
 use Rattle.xv_model.proofs.Elements.{set_by}
 use Rattle.end_queue.specs.declared.ends.EndRecord.{EndRecord}
 use Rattle.end_queue.specs.Accounts.{IsEnd}
-use Rattle.end_queue.specs.Ends.{configured, first_end}
+use Rattle.end_queue.specs.Ends.{HasCountsAtMost, configured, first_end}
+use Rattle.end_queue.proofs.Placing.{narrow}
 use Rattle.end_queue.proofs.Ranges.{configured_in_range}
 use Rattle.hint_calls.specs.Changes.{accepted_by, end_by_call}
 use Rattle.hint_calls.proofs.Told.{told_at}
 use Rattle.hint_calls.proofs.queues.set_queue_config.Goals as goal
+
+pub configure-requires-clause-narrow : goal.configure-requires-clause-narrow
+configure-requires-clause-narrow c = narrow c.args.board.now c.config_told-config.result c.requires.board c.config_told-config.ensures.valid
 
 pub returns-clause-ends : goal.returns-clause-ends
 returns-clause-ends c = λ j r there.
@@ -31,3 +35,8 @@ returns-clause-in_range c =
     let config = c.config_told-config.result in
     subst (λ (es : List EndRecord). All (IsEnd b) es) (sym c.configure.ensures)
     (All-set (IsEnd b) c.args.ends.now c.end_of-e.result (configured config) (configured_in_range b config c.config_told-config.ensures.valid) c.requires.in_range)
+
+pub returns-clause-counts : goal.returns-clause-counts
+returns-clause-counts c = λ n before.
+    subst (λ (es : List EndRecord). All (HasCountsAtMost n) es) (sym c.configure.ensures)
+    (All-set (HasCountsAtMost n) c.args.ends.now c.end_of-e.result (configured c.config_told-config.result) (record { written = omega arith; taken = omega arith }) before)
