@@ -1,0 +1,4 @@
+-- Lemmas.
+pub mod Configured
+pub mod Entering
+pub mod Shown

@@ -1,0 +1,4 @@
+-- What the KVM device's calls accept and change.
+pub mod Accepted
+pub mod Changes
+pub mod Parts
