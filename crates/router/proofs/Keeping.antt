@@ -36,7 +36,7 @@ nothing_keeps t z h x eases routed ends messages st = record {
   messages = st.messages ∙ sym messages;
 }
 
--- whether an entry is one of processors, of the rings of threads or of memory alone, or took no message
+-- whether an entry is one of processors, of the rings of threads or of memory alone, only asks, or took no message
 abbrev pub is_beside : Op → Outcome → Bool
 is_beside (op.Connect v) u = true
 is_beside (op.Restore v t) u = true
@@ -44,6 +44,9 @@ is_beside (op.Save v) u = true
 is_beside (op.Tima t page offset size access) u = true
 is_beside (op.Peek addr) u = true
 is_beside (op.Zero addr len) u = true
+is_beside (op.AttrGet group number) u = true
+is_beside (op.VpGet v) u = true
+is_beside (op.VpSet v cppr ipb) u = true
 is_beside (op.Take i) out.NoMessage = true
 is_beside (op.Take i) out.BadAccess = true
 is_beside o u = false
@@ -72,6 +75,9 @@ beside t z h actor (op.Save v) u is = nothing_keeps t z h (entry actor (op.Save 
 beside t z h actor (op.Tima thread page offset size access) u is = nothing_keeps t z h (entry actor (op.Tima thread page offset size access) u) (λ s. refl) (λ s. omega arith) (nothing_entered z h) (append-nil (flight z h))
 beside t z h actor (op.Peek addr) u is = nothing_keeps t z h (entry actor (op.Peek addr) u) (λ s. refl) (λ s. omega arith) (nothing_entered z h) (append-nil (flight z h))
 beside t z h actor (op.Zero addr len) u is = nothing_keeps t z h (entry actor (op.Zero addr len) u) (λ s. refl) (λ s. omega arith) (nothing_entered z h) (append-nil (flight z h))
+beside t z h actor (op.AttrGet group number) u is = nothing_keeps t z h (entry actor (op.AttrGet group number) u) (λ s. refl) (λ s. omega arith) (nothing_entered z h) (append-nil (flight z h))
+beside t z h actor (op.VpGet v) u is = nothing_keeps t z h (entry actor (op.VpGet v) u) (λ s. refl) (λ s. omega arith) (nothing_entered z h) (append-nil (flight z h))
+beside t z h actor (op.VpSet v cppr ipb) u is = nothing_keeps t z h (entry actor (op.VpSet v cppr ipb) u) (λ s. refl) (λ s. omega arith) (nothing_entered z h) (append-nil (flight z h))
 beside t z h actor _ u is = absurd cc
 
 -- such an entry leaves what the tables represent

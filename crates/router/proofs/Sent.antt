@@ -1,5 +1,5 @@
 -- The messages in flight: those that a pass makes, and those that one is taken out of.
-use Rattle.std.proofs.Common.{ℕ, suc, ◌≡◌, ◌<◌, ◌^◌, ◌==◌, ◌&&◌, Bool, true, false, if◌then◌else◌, nat_lt, List, [], ◌∷◌, ◌++◌, length, Option, Some, None, slice_get, slice_index_or, refl, sym, ◌∙◌, ap, subst, arith}
+use Rattle.std.proofs.Common.{ℕ, suc, ◌≡◌, ◌<◌, ◌^◌, ◌&&◌, Bool, true, false, if◌then◌else◌, nat_lt, List, [], ◌∷◌, ◌++◌, length, Option, Some, None, slice_get, slice_index_or, refl, sym, ◌∙◌, ap, subst, arith}
 use Rattle.std.specs.Prelude.{All}
 use Rattle.std.specs.List.{remove}
 use Rattle.std.proofs.lemmas.Bool.Decides.{nat_tests}
@@ -40,7 +40,7 @@ picked false a b is on = absurd cc
 
 -- a valid END notifies in range
 noted : (b : Board) (c : EndConfig) → valid_config b c ≡ true → is_valid c ≡ true → notifies_one b c ≡ true
-noted b c valid on = picked (is_valid c) (notifies_one b c) (has_nothing c) (right (has_queue b c) _ (right (c.start == 0) _ valid)) on
+noted b c valid on = picked (is_valid c) (notifies_one b c) (has_nothing c) (right (has_queue b c) _ valid) on
 
 -- one processor of its board
 notifying : (b : Board) (c : EndConfig) → notifies_one b c ≡ true → IsTarget b c.vp c.priority
