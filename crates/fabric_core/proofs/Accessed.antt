@@ -41,7 +41,7 @@ refuses p z h t u s f none = ap (λ o. option_map_or (λ (v : ℕ). u) o (out.Re
 pub stays_refused : (p : Parts) (z : Start) (h : List Entry) (t actor page offset size : ℕ) (access : Access) (why : MoveRefused) (o : RingOp) → StandsFor p z h → ring_op page offset size access ≡ Some o →
     StandsFor p z (record { actor = actor; op = op.Tima t page offset size access; outcome = out.Refused why } ∷ h)
 stays_refused p z h t actor page offset size access why o s e =
-    keeps p z h (record { actor = actor; op = op.Tima t page offset size access; outcome = out.Refused why }) (λ v l. access_refused z h v t actor page offset size access why o e) s
+    keeps p z h (record { actor = actor; op = op.Tima t page offset size access; outcome = out.Refused why }) refl (λ v l. access_refused z h v t actor page offset size access why o e) s
 
 -- ---- where one is
 pub answers : (p : Parts) (z : Start) (h : List Entry) (t : ℕ) (u : Outcome) → StandsFor p z h → AreFit p.vps.vps p.rings → is_valid (ring_in p.rings t).cam ≡ true → u ≡ if_on z h t u

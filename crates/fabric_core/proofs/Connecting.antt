@@ -4,7 +4,7 @@ use Rattle.std.specs.Prelude.{◌⊎◌}
 use Rattle.std.specs.Option.{option_map_or}
 use Rattle.std.proofs.lemmas.Bool.{cases_eq, cases_lt, eq-eqb}
 use Rattle.std.proofs.Math.ListN.{length-set}
-use Rattle.xv_model.specs.declared.kvm.TheConstants.{EINVAL}
+use Rattle.xv_model.specs.declared.kvm.errors.TheConstants.{EINVAL}
 use Rattle.xv_model.specs.declared.entries.Entry.{Entry}
 use Rattle.xv_model.specs.declared.operations.Op.TheVariants.{Connect}
 use Rattle.xv_model.specs.declared.outcomes.Outcome.TheVariants.{Code}
@@ -68,7 +68,7 @@ module _ (p p' : Parts) (z : Start) (h : List Entry) (s : StandsFor p z h) (v ac
   refused_stands code refused e g =
       subst (λ vps. StandsFor (record { vps = vps; rings = p'.rings }) z (entry code ∷ h)) (sym e)
       (subst (λ rings. StandsFor (record { vps = p.vps; rings = rings }) z (entry code ∷ h)) (sym g)
-      (keeps p z h (entry code) (λ w l. untouched z h w (entry code) (refused_connect v code (ap is_success refused))) s))
+      (keeps p z h (entry code) refl (λ w l. untouched z h w (entry code) (refused_connect v code (ap is_success refused))) s))
 
   pub connect_stands : (code : ℤ) → v < length p.vps.vps → (v < p.vps.servers → code ≡ pos 0) → (p.vps.servers ≤ v → code ≡ EINVAL) → (p.vps.servers ≤ v → p'.vps ≡ p.vps) →
       (v < p.vps.servers → p'.vps.vps ≡ slice_set p.vps.vps v (connected (vp_in p.vps.vps v))) → p'.rings ≡ p.rings → p'.vps.servers ≡ p.vps.servers → StandsFor p' z (entry code ∷ h)

@@ -42,6 +42,10 @@ kept_connect p p' o code v servers accepted refused e fails = by (cases_lt v ser
     by (inl less) = absurd (success_not (ap is_success (code_same (pos 0) code (sym (accepted less) ∙ e)) ∙ fails))
     by (inr past) = refused past
 
+-- the code of an outcome that is one
+pub code_fails : (a b : ℤ) → Code a ≡ Code b → is_success b ≡ false → is_success a ≡ false
+code_fails a b e fails = ap is_success (code_same a b e) ∙ fails
+
 reply_same : (a b : HReply) → Reply a ≡ Reply b → a ≡ b
 reply_same a b e = cc
 

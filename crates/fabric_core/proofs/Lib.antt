@@ -3,6 +3,7 @@ pub mod Accessed
 pub mod Called
 pub mod Choices
 pub mod Connecting
+pub mod Device
 pub mod Kept
 pub mod Loads
 pub mod Moving

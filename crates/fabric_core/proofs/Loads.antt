@@ -55,4 +55,4 @@ loads p z h t at size s f kept inside =
 pub stays_loaded : (p : Parts) (z : Start) (h : List Entry) (t actor page offset size : ℕ) (access : Access) (from count value : ℕ) → StandsFor p z h → ring_op page offset size access ≡ Some (Load from count) →
     StandsFor p z (record { actor = actor; op = op.Tima t page offset size access; outcome = out.Value value } ∷ h)
 stays_loaded p z h t actor page offset size access from count value s e = keeps p z h (record { actor = actor; op = op.Tima t page offset size access; outcome = out.Value value })
-    (λ v l. access_silent z h v t actor page offset size access (out.Value value) (Load from count) e refl (λ q b. refl) refl) s
+    refl (λ v l. access_silent z h v t actor page offset size access (out.Value value) (Load from count) e refl (λ q b. refl) refl) s

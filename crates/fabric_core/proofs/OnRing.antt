@@ -13,6 +13,7 @@ use Rattle.xv_model.specs.declared.outcomes.Phase.TheVariants.{On}
 use Rattle.xv_model.specs.declared.tima.RingOp.{RingOp}
 use Rattle.xv_model.specs.account.Start.{Start}
 use Rattle.xv_model.specs.processor.RingOps.{ring_op}
+use Rattle.xv_model.specs.device.Accepted.{servers_in}
 use Rattle.xv_model.specs.processor.Phases.{is_connected, is_running, is_saved, moved_at, moved_by, phase, thread_of}
 use Rattle.xv_model.specs.processor.Pending.{pending, ring_says}
 use Rattle.xv_model.specs.processor.Registers.{cppr, cppr_in as cppr_by}
@@ -27,7 +28,7 @@ use Rattle.presenter.proofs.Keeping.{on_thread, or_false}
 use Rattle.fabric_core.specs.Processors.{IsProcessor, Parts, StandsFor, cppr_in}
 use Rattle.fabric_core.proofs.OnThread.{IsOn}
 use Rattle.fabric_core.proofs.Silent.{access_off}
-use Rattle.fabric_core.proofs.Untouched.{IsUntouched, stays}
+use Rattle.fabric_core.proofs.Untouched.{IsUntouched, servers_stay, stays}
 
 -- no priority is in a byte that is 0
 pub none_in_zero : (ipb q : ℕ) → ipb ≡ 0 → has_priority ipb q ≡ false
@@ -71,10 +72,10 @@ on_then vps rings z h x v t r is on l connected still stored now = record {
 }
 
 -- the ring of a thread changes by an entry that says nothing of other processors
-pub ring_then : (p p' : Parts) (z : Start) (h : List Entry) (x : Entry) (v t : ℕ) (r : RingRecord) → StandsFor p z h → IsOn p z h v t → p'.vps ≡ p.vps → p'.rings ≡ slice_set p.rings t r →
+pub ring_then : (p p' : Parts) (z : Start) (h : List Entry) (x : Entry) (v t : ℕ) (r : RingRecord) → servers_in x.op x.outcome ≡ None → StandsFor p z h → IsOn p z h v t → p'.vps ≡ p.vps → p'.rings ≡ slice_set p.rings t r →
     ((w : ℕ) → w < z.board.limits.processors → w ≢ v → IsUntouched z h w x) → IsProcessor p.vps.vps (slice_set p.rings t r) z (x ∷ h) v → StandsFor p' z (x ∷ h)
-ring_then p p' z h x v t r s o same set others is = subst (λ q. StandsFor q z (x ∷ h)) (λ i. record { vps = sym same i; rings = sym set i }) (record {
-  servers_are = s.servers_are;
+ring_then p p' z h x v t r none s o same set others is = subst (λ q. StandsFor q z (x ∷ h)) (λ i. record { vps = sym same i; rings = sym set i }) (record {
+  servers_are = s.servers_are ∙ sym (servers_stay z h x none);
   processors = s.processors;
   threads = length-set p.rings t r ∙ s.threads;
   each = λ w l. each w l (cases_eq w v);
@@ -107,7 +108,7 @@ pub access_then : (p p' : Parts) (z : Start) (h : List Entry) (v t actor page of
     StandsFor p' z (record { actor = actor; op = op.Tima t page offset size access; outcome = u } ∷ h)
 access_then p p' z h v t actor page offset size access u o r s on l e away same set stored now =
     let is : IsProcessor p.vps.vps p.rings z h v = s.each v on.inside in
-    ring_then p p' z h (record { actor = actor; op = op.Tima t page offset size access; outcome = u }) v t r s on same set
+    ring_then p p' z h (record { actor = actor; op = op.Tima t page offset size access; outcome = u }) v t r refl s on same set
     (λ w less other. access_off z h w t actor page offset size access u o e (on.off w less other) (ap (moved_at w) away))
     (on_then p.vps.vps p.rings z h (record { actor = actor; op = op.Tima t page offset size access; outcome = u }) v t r is on.phase_is l refl (phase_then z h v t actor page offset size access u o e on.phase_is away)
     (stored ∙ ap (option_map_or (λ n. n) (cppr_by o u)) (ring_cppr p.vps.vps p.rings z h v t is on.phase_is) ∙ sym (cppr_then z h v t actor page offset size access u o e on.phase_is))

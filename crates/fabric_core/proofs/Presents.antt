@@ -74,7 +74,7 @@ module _ (p p' : Parts) (z : Start) (h : List Entry) (actor i v priority t : ℕ
   finds same set =
       let o : IsOn p z h v t = on_by_phase p z h s f v t at in
       let is : IsProcessor p.vps.vps p.rings z h v = s.each v o.inside in
-      ring_then p p' z h found v t (pending_added priority (ring_in p.rings t)) s o same set
+      ring_then p p' z h found v t (pending_added priority (ring_in p.rings t)) refl s o same set
       (λ w l other. other_take z h w v priority actor i Found escalates (λ e. other (sym e)))
       (on_then p.vps.vps p.rings z h found v t (pending_added priority (ring_in p.rings t)) is o.phase_is (f.threads v t (ap thread_of at)) refl o.phase_is
       (pending_cppr priority (ring_in p.rings t) ∙ ring_cppr p.vps.vps p.rings z h v t is o.phase_is)
@@ -137,7 +137,7 @@ module _ (p p' : Parts) (z : Start) (h : List Entry) (actor i v priority : ℕ) 
 -- ---- it is lost
 pub loses : (p p' : Parts) (z : Start) (h : List Entry) (actor i v priority : ℕ) (w : Presented) (escalates : Bool) → StandsFor p z h → is_kept w ≡ false → p' ≡ p → StandsFor p' z (entry actor i v priority w escalates ∷ h)
 loses p p' z h actor i v priority w escalates s lost same =
-    subst (λ q. StandsFor q z (entry actor i v priority w escalates ∷ h)) (sym same) (keeps p z h (entry actor i v priority w escalates) (λ u l. lost_take z h u v priority actor i w escalates lost) s)
+    subst (λ q. StandsFor q z (entry actor i v priority w escalates ∷ h)) (sym same) (keeps p z h (entry actor i v priority w escalates) refl (λ u l. lost_take z h u v priority actor i w escalates lost) s)
 
 -- ---- what a presentation leaves, whatever became of it
 -- what is kept changes so

@@ -14,6 +14,7 @@ use Rattle.xv_model.specs.declared.outcomes.Phase.TheVariants.{Saved, Restored, 
 use Rattle.xv_model.specs.declared.tima.RingOp.TheVariants.{Push, Pull}
 use Rattle.xv_model.specs.account.Start.{Start}
 use Rattle.xv_model.specs.processor.RingOps.{ring_op}
+use Rattle.xv_model.specs.device.Accepted.{servers_in}
 use Rattle.xv_model.specs.processor.Phases.{cam_of, user_of}
 use Rattle.xv_model.specs.processor.Moves.{on_of}
 use Rattle.nvt_backlog.specs.Vps.{vp_in}
@@ -66,10 +67,10 @@ pushable false p t e = absurd cc
 
 module _ (p p' : Parts) (z : Start) (h : List Entry) (s : StandsFor p z h) (f : AreFit p.vps.vps p.rings) where
   -- nothing changes where an entry says nothing of any processor
-  unchanged : (x : Entry) → ((v : ℕ) → IsUntouched z h v x) → p'.vps ≡ p.vps → p'.rings ≡ p.rings → StandsFor p' z (x ∷ h)
-  unchanged x silent e g =
+  unchanged : (x : Entry) → servers_in x.op x.outcome ≡ None → ((v : ℕ) → IsUntouched z h v x) → p'.vps ≡ p.vps → p'.rings ≡ p.rings → StandsFor p' z (x ∷ h)
+  unchanged x none silent e g =
       subst (λ vps. StandsFor (record { vps = vps; rings = p'.rings }) z (x ∷ h)) (sym e)
-      (subst (λ rings. StandsFor (record { vps = p.vps; rings = rings }) z (x ∷ h)) (sym g) (keeps p z h x (λ v l. silent v) s))
+      (subst (λ rings. StandsFor (record { vps = p.vps; rings = rings }) z (x ∷ h)) (sym g) (keeps p z h x none (λ v l. silent v) s))
 
   answered : (actor : ℕ) (o : Op) (u u' : Outcome) → u ≡ u' → StandsFor p' z (record { actor = actor; op = o; outcome = u' } ∷ h) → StandsFor p' z (record { actor = actor; op = o; outcome = u } ∷ h)
   answered actor o u u' e stands = subst (λ u. StandsFor p' z (record { actor = actor; op = o; outcome = u } ∷ h)) (sym e) stands
@@ -82,7 +83,7 @@ module _ (p p' : Parts) (z : Start) (h : List Entry) (s : StandsFor p z h) (f : 
       StandsFor p' z (record { actor = actor; op = op.Restore v t; outcome = o } ∷ h)
   restore_stands v t actor (Err why) o l inside refused same_vps same_rings e g servers same fine told =
       answered actor (op.Restore v t) o (Refused why) (told why refl)
-      (unchanged (record { actor = actor; op = op.Restore v t; outcome = Refused why }) (λ w. untouched z h w (record { actor = actor; op = op.Restore v t; outcome = Refused why }) (refused_restore v t why)) same_vps same_rings)
+      (unchanged (record { actor = actor; op = op.Restore v t; outcome = Refused why }) refl (λ w. untouched z h w (record { actor = actor; op = op.Restore v t; outcome = Refused why }) (refused_restore v t why)) same_vps same_rings)
   restore_stands v t actor (Ok u) o l inside refused same_vps same_rings e g servers same fine told =
       let user = user_of z h t in
       let is = user_stands p z h s t in
@@ -99,7 +100,7 @@ module _ (p p' : Parts) (z : Start) (h : List Entry) (s : StandsFor p z h) (f : 
       StandsFor p' z (record { actor = actor; op = op.Save v; outcome = o } ∷ h)
   save_stands v actor (Err why) o l refused same_vps same_rings e g servers same fine told =
       answered actor (op.Save v) o (Refused why) (told why refl)
-      (unchanged (record { actor = actor; op = op.Save v; outcome = Refused why }) (λ w. untouched z h w (record { actor = actor; op = op.Save v; outcome = Refused why }) (refused_save v why)) same_vps same_rings)
+      (unchanged (record { actor = actor; op = op.Save v; outcome = Refused why }) refl (λ w. untouched z h w (record { actor = actor; op = op.Save v; outcome = Refused why }) (refused_save v why)) same_vps same_rings)
   save_stands v actor (Ok u) o l refused same_vps same_rings e g servers same fine told =
       let may = savable (vp_in p.vps.vps v).valid (vp_in p.vps.vps v).phase (allowed (save_refused (vp_in p.vps.vps v).valid (vp_in p.vps.vps v).phase) (Ok u) u refl refused) in
       answered actor (op.Save v) o Fine fine (saved_stands p p' z h s f v may.0 actor l may.1 (e may.0 may.1) (g may.0 may.1) servers same)
@@ -114,7 +115,7 @@ module _ (p p' : Parts) (z : Start) (h : List Entry) (s : StandsFor p z h) (f : 
       StandsFor p' z (record { actor = actor; op = op.Tima t page offset size access; outcome = o } ∷ h)
   push_stands t cam actor page offset size access (Err why) o is no_vp refused same_vps same_rings e g servers same fine told =
       answered actor (op.Tima t page offset size access) o (Refused why) (told why refl)
-      (unchanged (record { actor = actor; op = op.Tima t page offset size access; outcome = Refused why }) (λ w. access_refused z h w t actor page offset size access why (Push cam) is) same_vps same_rings)
+      (unchanged (record { actor = actor; op = op.Tima t page offset size access; outcome = Refused why }) refl (λ w. access_refused z h w t actor page offset size access why (Push cam) is) same_vps same_rings)
   push_stands t cam actor page offset size access (Ok u) o is no_vp refused same_vps same_rings e g servers same fine told = answered actor (op.Tima t page offset size access) o Fine fine (by (named_by (length p.vps.vps) cam) refl)
     where
       by : (named : Option ℕ) → named_by (length p.vps.vps) cam ≡ named → StandsFor p' z (record { actor = actor; op = op.Tima t page offset size access; outcome = Fine } ∷ h)
@@ -135,7 +136,7 @@ module _ (p p' : Parts) (z : Start) (h : List Entry) (s : StandsFor p z h) (f : 
       by None off =
           let off = none (λ v at. none_some v (sym off ∙ on_named p z h s f v t at)) in
           answered actor (op.Tima t page offset size access) o (Refused NoContext) (told NoContext off)
-          (unchanged (record { actor = actor; op = op.Tima t page offset size access; outcome = Refused NoContext }) (λ w. access_refused z h w t actor page offset size access NoContext Pull is)
+          (unchanged (record { actor = actor; op = op.Tima t page offset size access; outcome = Refused NoContext }) refl (λ w. access_refused z h w t actor page offset size access NoContext Pull is)
           (subst (λ (r : Result ℕ MoveRefused). OnErr r (p'.vps ≡ p.vps)) off same_vps) (subst (λ (r : Result ℕ MoveRefused). OnErr r (p'.rings ≡ p.rings)) off same_rings))
       by (Some v) there =
           let at = on_stands p z h s t v there in

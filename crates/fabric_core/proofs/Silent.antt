@@ -4,6 +4,7 @@ use Rattle.std.specs.Option.{option_map_or}
 use Rattle.std.proofs.lemmas.Bool.{ne_eqb}
 use Rattle.xv_model.specs.declared.entries.Entry.{Entry}
 use Rattle.xv_model.specs.declared.operations.Access.{Access}
+use Rattle.xv_model.specs.declared.operations.AttrValue.{AttrValue}
 use Rattle.xv_model.specs.declared.operations.Op.{Op}
 use Rattle.xv_model.specs.declared.operations.Op.TheVariants as op
 use Rattle.xv_model.specs.declared.outcomes.MoveRefused.{MoveRefused}
@@ -18,7 +19,7 @@ use Rattle.xv_model.specs.call.Accepted.{is_success}
 use Rattle.xv_model.specs.processor.RingOps.{ring_access, ring_op}
 use Rattle.xv_model.specs.processor.Phases.{connected_in, is_on, move_in, moved_at, moved_by, phase}
 use Rattle.xv_model.specs.processor.Pending.{access_says, ipb_set, is_kept, is_of, presentation_in, ring_says}
-use Rattle.xv_model.specs.processor.Registers.{cppr_at, cppr_in as cppr_by, cppr_set}
+use Rattle.xv_model.specs.processor.Registers.{cppr_at, cppr_in as cppr_by, cppr_set, stored_cppr}
 use Rattle.std.proofs.Math.Bool.{and-false}
 use Rattle.xv_model.specs.declared.outcomes.Phase.{Phase}
 use Rattle.fabric_core.proofs.Choices.{none_chosen}
@@ -56,6 +57,30 @@ refused_save v why = record { connects = refl; moves = refl; presents = refl; se
 pub refused_connect : (v : ℕ) (code : ℤ) → is_success code ≡ false → IsSilent (op.Connect v) (out.Code code)
 refused_connect v code e = record { connects = ap (λ b. if b then Some v else None) e; moves = refl; presents = refl; sets_ipb = λ v. refl; sets_cppr = λ v. refl; accesses = refl }
 
+-- a setting of an attribute, and what only asks
+pub set_attribute : (group number : ℕ) (value : AttrValue) (u : Outcome) → IsSilent (op.AttrSet group number value) u
+set_attribute group number value u = record { connects = refl; moves = refl; presents = refl; sets_ipb = λ v. refl; sets_cppr = λ v. refl; accesses = refl }
+
+pub asked_attribute : (group number : ℕ) (u : Outcome) → IsSilent (op.AttrGet group number) u
+asked_attribute group number u = record { connects = refl; moves = refl; presents = refl; sets_ipb = λ v. refl; sets_cppr = λ v. refl; accesses = refl }
+
+pub asked_state : (v : ℕ) (u : Outcome) → IsSilent (op.VpGet v) u
+asked_state v u = record { connects = refl; moves = refl; presents = refl; sets_ipb = λ v. refl; sets_cppr = λ v. refl; accesses = refl }
+
+-- a state that isn't set
+none_set : (same : Bool) (code : ℤ) (n : ℕ) → is_success code ≡ false → (if same && is_success code then Some n else None) ≡ None
+none_set same code n e = ap (λ b. if same && b then Some n else None) e ∙ ap (λ b. if b then Some n else None) (and-false same)
+
+pub refused_state : (v cppr ipb : ℕ) (code : ℤ) → is_success code ≡ false → IsSilent (op.VpSet v cppr ipb) (out.Code code)
+refused_state v cppr ipb code e = record {
+  connects = refl;
+  moves = refl;
+  presents = refl;
+  sets_ipb = λ w. none_set (v == w) code ipb e;
+  sets_cppr = λ w. none_set (v == w) code (stored_cppr cppr) e;
+  accesses = refl;
+}
+
 -- what a connection leaves of any processor, but perhaps that it is connected
 pub connect_still : (z : Start) (h : List Entry) (v w actor : ℕ) (code : ℤ) → IsStill z h v (record { actor = actor; op = op.Connect w; outcome = out.Code code })
 connect_still z h v w actor code = record { moves = refl; presents = λ p l. refl; sets_ipb = refl; sets_cppr = refl; says = λ p l. refl; stores = refl }
@@ -85,6 +110,15 @@ other_save z h v w actor other = record {
   still = record { moves = not_moved v w Saved other; presents = λ p l. refl; sets_ipb = refl; sets_cppr = refl; says = λ p l. refl; stores = refl };
   connects = refl;
 }
+
+pub other_state : (z : Start) (h : List Entry) (v w cppr ipb actor : ℕ) (code : ℤ) → w ≢ v → IsUntouched z h v (record { actor = actor; op = op.VpSet w cppr ipb; outcome = out.Code code })
+other_state z h v w cppr ipb actor code other = record {
+  still = record { moves = refl; presents = λ p l. refl; sets_ipb = by ipb; sets_cppr = by (stored_cppr cppr); says = λ p l. refl; stores = refl };
+  connects = refl;
+}
+  where
+    by : (n : ℕ) → (if (w == v) && is_success code then Some n else None) ≡ None
+    by n = ap (λ b. if b && is_success code then Some n else None) (ne_eqb w v other)
 
 pub other_take : (z : Start) (h : List Entry) (v w p actor i : ℕ) (presented : Presented) (escalates : Bool) → w ≢ v →
     IsUntouched z h v (record { actor = actor; op = op.Take i; outcome = out.Present w p presented escalates })

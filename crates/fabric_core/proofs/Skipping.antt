@@ -6,7 +6,7 @@ use Rattle.xv_model.specs.account.Start.{Start}
 use Rattle.xv_model.specs.account.Kinds.{is_fabric}
 use Rattle.xv_model.specs.processor.Phases.{is_running, is_saved, thread_of}
 use Rattle.xv_model.specs.processor.Priorities.{has_priority}
-use Rattle.xv_model.proofs.FabricHalves.{word_at-skips, is_connected-skips}
+use Rattle.xv_model.proofs.FabricHalves.{word_at-skips, is_connected-skips, servers-skips}
 use Rattle.xv_model.proofs.ProcessorHalves.{phase-skips, pending-skips, kept-skips, late-skips, cppr-skips}
 use Rattle.guest_ram.specs.Ram.{StandsFor as MemoryStandsFor}
 use Rattle.router.proofs.Keeping.{word_keeps}
@@ -40,7 +40,7 @@ processor-skips vps rings z h x v other st =
 
 pub processors-skip : (p : Parts) (z : Start) (h : List Entry) (x : Entry) → is_fabric z.board x.op ≡ false → ProcessorsStandFor p z h → ProcessorsStandFor p z (x ∷ h)
 processors-skip p z h x other st = record {
-  servers_are = st.servers_are;
+  servers_are = st.servers_are ∙ sym (servers-skips z x h other);
   processors = st.processors;
   threads = st.threads;
   each = λ v l. processor-skips p.vps.vps p.rings z h x v other (st.each v l);

@@ -12,6 +12,7 @@ use Rattle.xv_model.specs.declared.outcomes.Phase.TheVariants.{Saved, Restored, 
 use Rattle.xv_model.specs.declared.tima.RingOp.TheVariants.{Push, Pull}
 use Rattle.xv_model.specs.account.Start.{Start}
 use Rattle.xv_model.specs.processor.RingOps.{ring_op}
+use Rattle.xv_model.specs.device.Accepted.{servers_in}
 use Rattle.xv_model.specs.processor.Phases.{cam_of, is_connected, is_on, phase, thread_of}
 use Rattle.xv_model.specs.processor.Pending.{kept, late, pending}
 use Rattle.xv_model.specs.processor.Registers.{cppr}
@@ -29,7 +30,7 @@ use Rattle.fabric_core.proofs.OnRing.{ring_pending}
 use Rattle.fabric_core.proofs.OnThread.{off_phase, phase_named}
 use Rattle.fabric_core.proofs.Places.{counted}
 use Rattle.fabric_core.proofs.Silent.{access_off, not_moved, other_restore, other_save}
-use Rattle.fabric_core.proofs.Untouched.{IsUntouched, stays}
+use Rattle.fabric_core.proofs.Untouched.{IsUntouched, servers_stay, stays}
 
 -- processor v and the ring of thread t become these; no other processor uses the thread, and v no other thread
 pub record IsStep (p p' : Parts) (v t : ℕ) (vp : Vp) (r : RingRecord) : Type 0 where
@@ -66,9 +67,9 @@ module _ (p p' : Parts) (v t : ℕ) (vp : Vp) (r : RingRecord) (st : IsStep p p'
   free_here none (inl uses) = absurd (none v (ap (λ (y : Vp). thread_of y.phase) vp_then ∙ uses))
   free_here none (inr e) = ring_then ∙ e
 
-  pub steps : (z : Start) (h : List Entry) (x : Entry) → StandsFor p z h → ((w : ℕ) → w < z.board.limits.processors → w ≢ v → IsUntouched z h w x) → IsProcessor p'.vps.vps p'.rings z (x ∷ h) v → StandsFor p' z (x ∷ h)
-  steps z h x s untouched here = record {
-    servers_are = st.servers_are ∙ s.servers_are;
+  pub steps : (z : Start) (h : List Entry) (x : Entry) → servers_in x.op x.outcome ≡ None → StandsFor p z h → ((w : ℕ) → w < z.board.limits.processors → w ≢ v → IsUntouched z h w x) → IsProcessor p'.vps.vps p'.rings z (x ∷ h) v → StandsFor p' z (x ∷ h)
+  steps z h x none s untouched here = record {
+    servers_are = st.servers_are ∙ s.servers_are ∙ sym (servers_stay z h x none);
     processors = ap length st.vps_are ∙ length-set p.vps.vps v vp ∙ s.processors;
     threads = ap length st.rings_are ∙ length-set p.rings t r ∙ s.threads;
     each = λ w l. elim (cases_eq w v) [
@@ -83,10 +84,10 @@ module _ (p p' : Parts) (v t : ℕ) (vp : Vp) (r : RingRecord) (st : IsStep p p'
   }
 
 -- the processor that moves, where the same priorities are pending for it
-moves_to : (p p' : Parts) (v t : ℕ) (vp : Vp) (r : RingRecord) (now : Phase) (z : Start) (h : List Entry) (x : Entry) → IsStep p p' v t vp r → StandsFor p z h → IsMoved z h v now x →
+moves_to : (p p' : Parts) (v t : ℕ) (vp : Vp) (r : RingRecord) (now : Phase) (z : Start) (h : List Entry) (x : Entry) → servers_in x.op x.outcome ≡ None → IsStep p p' v t vp r → StandsFor p z h → IsMoved z h v now x →
     ((w : ℕ) → w < z.board.limits.processors → w ≢ v → IsUntouched z h w x) → KeepsPending p.vps.vps p.rings p'.vps.vps p'.rings →
     IsVpOf vp p'.rings now (is_connected z h v) (cppr z h v) (λ q. if is_pulled now then pending z h v q else kept z h v q) (λ q. not (is_pulled now) && late z h v q) → StandsFor p' z (x ∷ h)
-moves_to p p' v t vp r now z h x st s m untouched same is = steps p p' v t vp r st z h x s untouched
+moves_to p p' v t vp r now z h x none st s m untouched same is = steps p p' v t vp r st z h x none s untouched
     (to_processor p'.vps.vps p'.rings z h v vp now x m (vp_then p p' v t vp r st) (λ q b. same v q b ∙ (s.each v (counted p z h s v st.inside)).is_pending_as q b) is)
 
 module _ (p p' : Parts) (z : Start) (h : List Entry) (s : StandsFor p z h) (f : AreFit p.vps.vps p.rings) where
@@ -124,7 +125,7 @@ module _ (p p' : Parts) (z : Start) (h : List Entry) (s : StandsFor p z h) (f : 
         from = λ u uses. absurd (none_some u (sym (ap thread_of at) ∙ uses));
         leaves = inl refl;
       } in
-      moves_to p p' v t (restored t vp) r (Restored t) z h x st s (restore_moves z h v t actor) (λ w _ other. other_restore z h w v t actor (λ same. other (sym same))) same
+      moves_to p p' v t (restored t vp) r (Restored t) z h x refl st s (restore_moves z h v t actor) (λ w _ other. other_restore z h w v t actor (λ same. other (sym same))) same
       (restored_as vp p.rings p'.rings t (cppr z h v) (is_connected z h v) (kept z h v) (late z h v) (was v Saved l at) (ring_then p p' v t (restored t vp) r st))
 
   pub saved_stands : (v t actor : ℕ) → v < length p.vps.vps → (vp_in p.vps.vps v).phase ≡ Pulled t →
@@ -134,7 +135,7 @@ module _ (p p' : Parts) (z : Start) (h : List Entry) (s : StandsFor p z h) (f : 
       let vp = vp_in p.vps.vps v in
       let vp' = saved_from (ring_in p.rings t) vp in
       let x : Entry = record { actor = actor; op = op.Save v; outcome = out.Fine } in
-      moves_to p p' v t vp' free_ring Saved z h x (step_on v t vp' free_ring l (ap thread_of at) e g servers (inr refl)) s (save_moves z h v actor) (λ w _ other. other_save z h w v actor (λ same. other (sym same))) same
+      moves_to p p' v t vp' free_ring Saved z h x refl (step_on v t vp' free_ring l (ap thread_of at) e g servers (inr refl)) s (save_moves z h v actor) (λ w _ other. other_save z h w v actor (λ same. other (sym same))) same
       (saved_as vp p.rings p'.rings t (cppr z h v) (is_connected z h v) (kept z h v) (late z h v) (was v (Pulled t) l at))
 
   -- another processor isn't on the thread of one
@@ -154,7 +155,7 @@ module _ (p p' : Parts) (z : Start) (h : List Entry) (s : StandsFor p z h) (f : 
       let uses : Uses p.vps.vps v t = ap thread_of at in
       let x : Entry = record { actor = actor; op = op.Tima t page offset size access; outcome = out.Fine } in
       let st = step_on v t (on t vp) r l uses e g servers (inl refl) in
-      moves_to p p' v t (on t vp) r (On t) z h x st s (push_moves z h v t cam actor page offset size access o named)
+      moves_to p p' v t (on t vp) r (On t) z h x refl st s (push_moves z h v t cam actor page offset size access o named)
       (λ w inside other. access_off z h w t actor page offset size access out.Fine (Push cam) o (others_off v t uses w inside other) (no_move v w (cam - cam_of 0) (On t) named other)) same
       (pushed_as vp p.rings p'.rings t cam (cppr z h v) (is_connected z h v) (kept z h v) (late z h v) (was v (Restored t) l at) (ring_then p p' v t (on t vp) r st))
 
@@ -169,7 +170,7 @@ module _ (p p' : Parts) (z : Start) (h : List Entry) (s : StandsFor p z h) (f : 
       let x : Entry = record { actor = actor; op = op.Tima t page offset size access; outcome = out.Value cam } in
       let st = step_on v t vp' r l uses e g servers (inl refl) in
       let before = was v (On t) l at in
-      moves_to p p' v t vp' r (Pulled t) z h x st s (pull_moves z h v t cam actor page offset size access o named)
+      moves_to p p' v t vp' r (Pulled t) z h x refl st s (pull_moves z h v t cam actor page offset size access o named)
       (λ w inside other. access_off z h w t actor page offset size access (out.Value cam) Pull o (others_off v t uses w inside other) (no_move v w (cam - cam_of 0) (Pulled t) named other)) same
       (pulled_as vp p.rings p'.rings t (cppr z h v) (is_connected z h v) (kept z h v) (late z h v) (pending z h v) (λ q. false) before (ring_then p p' v t vp' r st)
       (ring_pending p.vps.vps p.rings z h v t (s.each v (counted p z h s v l)) (phase_named p z h s v t (counted p z h s v l) at)) (λ q. refl))

@@ -7,7 +7,8 @@ use Rattle.xv_model.specs.declared.outcomes.Presented.TheVariants.{Found, Backlo
 use Rattle.xv_model.specs.account.Start.{Start}
 use Rattle.xv_model.specs.processor.Priorities.{has_priority}
 use Rattle.xv_model.specs.processor.RingOps.{ring_access}
-use Rattle.xv_model.specs.processor.Phases.{connected_in, is_connected, is_running, is_saved, move_in, moved_at, phase, thread_of}
+use Rattle.xv_model.specs.device.Accepted.{servers_in}
+use Rattle.xv_model.specs.processor.Phases.{connected_in, is_connected, is_running, is_saved, move_in, moved_at, phase, servers, thread_of}
 use Rattle.xv_model.specs.processor.Pending.{Presentation, access_says, ipb_set, is_kept, is_late, is_of, keeps as saves_pending, kept, late, pending, presentation_in}
 use Rattle.xv_model.specs.processor.Registers.{cppr, cppr_at, cppr_set}
 use Rattle.nvt_backlog.specs.declared.vp.Vp.{Vp}
@@ -121,10 +122,14 @@ pub stays : (vps vps' : List Vp) (rings rings' : List RingRecord) (z : Start) (h
 stays vps vps' rings rings' z h v x untouched is e same = stays_same vps vps' rings rings' z h v x untouched.still is
     (e ∙ ap (λ b. record { valid = b; phase = (vp_in vps v).phase; cppr = (vp_in vps v).cppr; ipb = (vp_in vps v).ipb; backlog = (vp_in vps v).backlog }) (is.valid ∙ sym (connected_stays z h v x untouched))) same
 
+-- an entry that doesn't set the number of servers leaves it
+pub servers_stay : (z : Start) (h : List Entry) (x : Entry) → servers_in x.op x.outcome ≡ None → servers z (x ∷ h) ≡ servers z h
+servers_stay z h x none = ap (λ o. option_map_or (λ n. n) o (servers z h)) none
+
 -- an entry that says nothing of any processor
-pub keeps : (p : Parts) (z : Start) (h : List Entry) (x : Entry) → ((v : ℕ) → v < z.board.limits.processors → IsUntouched z h v x) → StandsFor p z h → StandsFor p z (x ∷ h)
-keeps p z h x untouched s = record {
-  servers_are = s.servers_are;
+pub keeps : (p : Parts) (z : Start) (h : List Entry) (x : Entry) → servers_in x.op x.outcome ≡ None → ((v : ℕ) → v < z.board.limits.processors → IsUntouched z h v x) → StandsFor p z h → StandsFor p z (x ∷ h)
+keeps p z h x none untouched s = record {
+  servers_are = s.servers_are ∙ sym (servers_stay z h x none);
   processors = s.processors;
   threads = s.threads;
   each = λ v l. stays p.vps.vps p.vps.vps p.rings p.rings z h v x (untouched v l) (s.each v l) refl (λ t uses. refl);

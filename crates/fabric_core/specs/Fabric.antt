@@ -1,7 +1,8 @@
 -- What a fabric keeps and shows, and which account it represents.
-use Rattle.std.specs.Prelude.{⊤, ℕ, ℤ, ◌≡◌, ◌<◌, ◌⊎◌, true, false, List}
+use Rattle.std.specs.Prelude.{ℕ, ℤ, ◌≡◌, ◌<◌, ◌⊎◌, true, false, List}
 use Rattle.xv_model.specs.declared.board.Board.{Board}
 use Rattle.xv_model.specs.declared.entries.Entry.{Entry}
+use Rattle.xv_model.specs.declared.operations.EqFields.{EqFields}
 use Rattle.xv_model.specs.declared.operations.Op.{Op}
 use Rattle.xv_model.specs.declared.operations.Op.TheVariants as op
 use Rattle.xv_model.specs.declared.outcomes.HReply.{HReply}
@@ -39,19 +40,24 @@ IsCounted o n z h = (s : ℕ) → (o ≡ op.Route s) ⊎ (o ≡ op.Quiet s) → 
 
 -- what an operation answers where it changes nothing: it is refused, or it only asks
 abbrev pub IsRefusal : Op → Outcome → Type 0
-IsRefusal (op.Esb s page offset store) u = (u ≡ out.BadOffset) ⊎ (u ≡ out.Ones)
+IsRefusal (op.Pq s o) u = u ≡ out.Spent
+IsRefusal (op.Esb s page offset store) u = (u ≡ out.BadOffset) ⊎ (u ≡ out.Ones) ⊎ (u ≡ out.Spent)
 IsRefusal (op.EndEsb e page offset store) u = (u ≡ out.BadOffset) ⊎ (u ≡ out.NoEnd)
 IsRefusal (op.Route s) u = (u ≡ out.NoNotice) ⊎ (u ≡ out.BusFull)
 IsRefusal (op.Take i) u = u ≡ out.NoMessage
-IsRefusal (op.Quiet s) u = ⊤
+IsRefusal (op.Quiet s) u = (u ≡ out.Quiet) ⊎ ((notices messages : ℕ) × (u ≡ out.Busy notices messages))
 IsRefusal (op.Connect v) u = (code : ℤ) × (u ≡ out.Code code) × (is_success code ≡ false)
 IsRefusal (op.Restore v t) u = (why : MoveRefused) × (u ≡ out.Refused why)
 IsRefusal (op.Save v) u = (why : MoveRefused) × (u ≡ out.Refused why)
 IsRefusal (op.Tima t page offset size access) u = (u ≡ out.BadAccess) ⊎ ((why : MoveRefused) × (u ≡ out.Refused why))
 IsRefusal (op.Hcall number args) u = (reply : HReply) × (u ≡ out.Reply reply) × (is_success reply.code ≡ false)
 IsRefusal (op.Read e) u = (u ≡ out.NoQueue) ⊎ (u ≡ out.Empty)
-IsRefusal (op.Peek addr) u = u ≡ out.BadRange
+IsRefusal (op.Peek addr) u = (u ≡ out.BadRange) ⊎ ((word : ℕ) × (u ≡ out.Cell word))
 IsRefusal (op.Zero addr len) u = u ≡ out.BadRange
+IsRefusal (op.AttrSet group number value) u = (code : ℤ) × (u ≡ out.Code code) × (is_success code ≡ false)
+IsRefusal (op.AttrGet group number) u = ((code : ℤ) × (u ≡ out.Code code)) ⊎ ((eq : EqFields) × (u ≡ out.Queue eq))
+IsRefusal (op.VpGet v) u = ((code : ℤ) × (u ≡ out.Code code)) ⊎ ((cppr ipb : ℕ) × (u ≡ out.Context cppr ipb))
+IsRefusal (op.VpSet v cppr ipb) u = (code : ℤ) × (u ≡ out.Code code) × (is_success code ≡ false)
 IsRefusal _ _ = ⊥
 
 -- what an account gives for what a fabric shows of an END

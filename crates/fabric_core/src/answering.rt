@@ -18,6 +18,7 @@ ghost use Rattle.end_queue.specs.Ends.{HasRoom, HasCountsAtMost};
 ghost use Rattle.fabric_core.specs.Fabric.{IsCounted, IsRefusal};
 ghost use Rattle.fabric_core.specs.Processors.{StandsFor as ProcessorsStandFor};
 
+use crate::attributes::{get_attribute, set_attribute};
 use crate::hypercalls::call_tables;
 use crate::memory::{peek, zero};
 use crate::processors::Processors;
@@ -181,6 +182,12 @@ pub(crate) fn answer(
         Op::Read { e } => tables.read(ram, *e),
         Op::Peek { addr } => peek(ram, *addr),
         Op::Zero { addr, len } => zero(ram, *addr, *len),
-        _ => unreachable!(),
+        Op::AttrSet { group, attr, value } => {
+            set_attribute(tables, ram, processors, *group, *attr, *value)
+        }
+        Op::AttrGet { group, attr } => get_attribute(tables, processors, *group, *attr),
+        Op::VpGet { v } => processors.state(*v),
+        Op::VpSet { v, cppr, ipb } => processors.set_state(*v, *cppr, *ipb),
+        Op::Pq { .. } => unreachable!(),
     }
 }

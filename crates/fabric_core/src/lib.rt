@@ -5,12 +5,14 @@
 
 mod accesses;
 mod answering;
+mod attributes;
 mod fabric;
 mod hypercalls;
 mod memory;
 mod moves;
 mod presenting;
 mod processors;
+mod states;
 #[cfg(test)]
 mod tests;
 mod views;

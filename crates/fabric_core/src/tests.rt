@@ -1,6 +1,7 @@
 //! What the tests share: boards, and a fabric that is asked first whether its board has what is named.
 
 mod acknowledgements;
+mod device;
 mod hypercalls;
 mod memory;
 mod moves;

@@ -1,4 +1,4 @@
-use Rattle.std.proofs.Common.{ℕ, ◌≡◌, nat_lt, true, List, ◌∷◌, refl, sym, ◌∙◌, ap, subst, inl, inr}
+use Rattle.std.proofs.Common.{ℕ, ◌≡◌, ◌==◌, nat_lt, true, List, ◌∷◌, refl, sym, ◌∙◌, ap, subst, inl, inr}
 use Rattle.std.proofs.lemmas.Bool.{and_parts}
 use Rattle.xv_model.specs.declared.entries.Entry.{Entry}
 use Rattle.xv_model.specs.declared.operations.Op.{Op}
@@ -7,7 +7,7 @@ use Rattle.xv_model.specs.declared.outcomes.Outcome.{Outcome}
 use Rattle.xv_model.specs.declared.outcomes.Outcome.TheVariants as out
 use Rattle.xv_model.specs.account.Legal.{legal}
 use Rattle.xv_model.specs.account.Start.{Start}
-use Rattle.xv_model.specs.board.Validity.{valid, end_count, may_be_configured, valid_config}
+use Rattle.xv_model.specs.board.Validity.{valid, end_count, may_be_configured, may_be_set, valid_config}
 use Rattle.guest_ram.specs.Ram.{StandsFor as MemoryStandsFor}
 use Rattle.router.proofs.Keeping.{word_keeps}
 use Rattle.router.proofs.Ranges.{one_more_in_all}
@@ -16,6 +16,7 @@ use Rattle.fabric_core.specs.Fabric.{IsRefusal}
 use Rattle.fabric_core.specs.Processors.{Parts, StandsFor as ProcessorsStandFor}
 use Rattle.fabric_core.proofs.Kept.{kept_connect, reply_fails}
 use Rattle.fabric_core.proofs.Skipping.{memory-skips, processors-skip}
+use Rattle.fabric_core.proofs.Device.{asked_attribute_stands, asked_state_stands}
 use Rattle.fabric_core.proofs.answering.answer.Goals as goal
 
 -- ---- an operation by its variant
@@ -65,7 +66,8 @@ pub configure-requires-clause-config : goal.configure-requires-clause-config
 configure-requires-clause-config c =
     let b = c.args.tables.now.board in
     let w = subst (λ p. valid b p ≡ true) c.in-EndSet.is c.requires.op in
-    let may = (and_parts (nat_lt c.in-EndSet.e (end_count b)) (may_be_configured b c.in-EndSet.e c.in-EndSet.config) w).1 in
+    let told = (and_parts (nat_lt c.in-EndSet.e (end_count b)) (may_be_set b c.in-EndSet.e c.in-EndSet.config) w).1 in
+    let may = (and_parts (c.in-EndSet.config.start == 0) (may_be_configured b c.in-EndSet.e c.in-EndSet.config) told).1 in
     (and_parts (valid_config b c.in-EndSet.config) _ may).0
 
 pub returns-in-EndSet-clause-tables : goal.returns-in-EndSet-clause-tables
@@ -181,3 +183,50 @@ returns-in-Read-clause-refused c = λ r. (c.read.ensures.refused (subst (λ (p :
 
 pub returns-in-Zero-clause-refused : goal.returns-in-Zero-clause-refused
 returns-in-Zero-clause-refused c = λ r. (refl, c.zero.ensures.refused (subst (λ (p : Op). IsRefusal p c.zero.result) c.in-Zero.is r), refl)
+
+-- ---- calls to the KVM device
+pub returns-in-AttrSet-clause-outcome : goal.returns-in-AttrSet-clause-outcome
+returns-in-AttrSet-clause-outcome c = λ z h st ms ps counted. c.set_attribute.ensures.outcome z h st ps ∙ ap (legal z h) (sym c.in-AttrSet.is)
+
+pub returns-in-AttrSet-clause-tables : goal.returns-in-AttrSet-clause-tables
+returns-in-AttrSet-clause-tables c = λ z h actor st ps counted.
+    tables_of _ z h actor _ _ _ c.in-AttrSet.is (c.set_attribute.ensures.tables z h actor st)
+
+pub returns-in-AttrSet-clause-processors : goal.returns-in-AttrSet-clause-processors
+returns-in-AttrSet-clause-processors c = λ z h actor ps.
+    processors_of _ z h actor _ _ _ c.in-AttrSet.is (c.set_attribute.ensures.processors z h actor ps)
+
+pub returns-in-AttrSet-clause-counts : goal.returns-in-AttrSet-clause-counts
+returns-in-AttrSet-clause-counts c = λ n all. one_more_in_all n c.set_attribute.new.tables.ends (c.set_attribute.ensures.counts n all)
+
+pub returns-in-AttrSet-clause-refused : goal.returns-in-AttrSet-clause-refused
+returns-in-AttrSet-clause-refused c = λ r.
+    let u = subst (λ (p : Op). IsRefusal p c.set_attribute.result) c.in-AttrSet.is r in
+    let same = c.set_attribute.ensures.refused u.0 u.1 u.2 in
+    (same.0, refl, same.1)
+
+pub returns-in-AttrGet-clause-outcome : goal.returns-in-AttrGet-clause-outcome
+returns-in-AttrGet-clause-outcome c = λ z h st ms ps counted. c.get_attribute.ensures.outcome z h st ps ∙ ap (legal z h) (sym c.in-AttrGet.is)
+
+pub returns-in-AttrGet-clause-processors : goal.returns-in-AttrGet-clause-processors
+returns-in-AttrGet-clause-processors c = λ z h actor ps.
+    processors_of _ z h actor _ _ _ c.in-AttrGet.is (asked_attribute_stands _ z h actor c.in-AttrGet.group c.in-AttrGet.attr c.get_attribute.result ps)
+
+pub returns-in-VpGet-clause-outcome : goal.returns-in-VpGet-clause-outcome
+returns-in-VpGet-clause-outcome c = λ z h st ms ps counted. c.state.ensures.outcome z h ps ∙ ap (legal z h) (sym c.in-VpGet.is)
+
+pub returns-in-VpGet-clause-processors : goal.returns-in-VpGet-clause-processors
+returns-in-VpGet-clause-processors c = λ z h actor ps.
+    processors_of _ z h actor _ _ _ c.in-VpGet.is (asked_state_stands _ z h actor c.in-VpGet.v c.state.result ps)
+
+pub returns-in-VpSet-clause-outcome : goal.returns-in-VpSet-clause-outcome
+returns-in-VpSet-clause-outcome c = λ z h st ms ps counted. c.set_state.ensures.outcome z h ps ∙ ap (legal z h) (sym c.in-VpSet.is)
+
+pub returns-in-VpSet-clause-processors : goal.returns-in-VpSet-clause-processors
+returns-in-VpSet-clause-processors c = λ z h actor ps.
+    processors_of _ z h actor _ _ _ c.in-VpSet.is (c.set_state.ensures.stands z h actor ps)
+
+pub returns-in-VpSet-clause-refused : goal.returns-in-VpSet-clause-refused
+returns-in-VpSet-clause-refused c = λ r.
+    let u = subst (λ (p : Op). IsRefusal p c.set_state.result) c.in-VpSet.is r in
+    (refl, refl, c.set_state.ensures.refused u.0 u.1 u.2)
