@@ -6,6 +6,8 @@ use Rattle.xv_model.specs.declared.operations.Op.TheVariants as op
 use Rattle.xv_model.specs.declared.outcomes.Outcome.{Outcome}
 use Rattle.xv_model.specs.declared.outcomes.Outcome.TheVariants as out
 use Rattle.xv_model.specs.declared.outcomes.MoveRefused.TheVariants.{RingBusy, NoContext}
+use Rattle.xv_model.specs.declared.kvm.Attribute.{Attribute}
+use Rattle.xv_model.specs.declared.kvm.Attribute.TheVariants as attribute
 use Rattle.xv_model.specs.declared.messages.Message.{Message}
 use Rattle.xv_model.specs.declared.messages.Message.TheVariants as message
 use Rattle.xv_model.specs.declared.tima.RingOp.{RingOp}
@@ -28,6 +30,11 @@ use Rattle.xv_model.specs.processor.RingOps.{ring_op}
 use Rattle.xv_model.specs.processor.Registers.{ring}
 use Rattle.xv_model.specs.processor.Moves.{is_pulled, is_restored, is_cam, on_of}
 use Rattle.xv_model.specs.processor.Accesses.{acknowledged, ring_outcome}
+use Rattle.xv_model.specs.call.Accepted.{is_success}
+use Rattle.xv_model.specs.call.Checks.{code_of}
+use Rattle.xv_model.specs.device.Answers.{got_of, vp_state_code}
+use Rattle.xv_model.specs.device.Attributes.{attribute_of}
+use Rattle.xv_model.specs.device.Checks.{eq_id_checks}
 use Rattle.machine.specs.Answering.{forwarded_in, consumed_in}
 
 -- an outcome neither makes nor consumes a notice
@@ -65,6 +72,17 @@ silent_tima z h t (Some (Push cam)) =
     (silent_if (not (is_restored t (phase z h (cam - cam_of 0)))) _ _ (record { makes = refl; consumes = refl }) (record { makes = refl; consumes = refl }))
 silent_tima z h t (Some Pull) = silent_on (on_of z h t) (λ v. out.Value (cam_of v)) (λ v. record { makes = refl; consumes = refl })
 
+-- what getting an attribute answers
+silent_got : (z : Start) (h : List Entry) (m : Option Attribute) → IsSilent (got_of z h m)
+silent_got z h (Some (attribute.EqConfig id)) = silent_if (is_success (code_of (eq_id_checks z h id))) _ _ (record { makes = refl; consumes = refl }) (record { makes = refl; consumes = refl })
+silent_got z h (Some attribute.Reset) = record { makes = refl; consumes = refl }
+silent_got z h (Some attribute.EqSync) = record { makes = refl; consumes = refl }
+silent_got z h (Some attribute.NrServers) = record { makes = refl; consumes = refl }
+silent_got z h (Some (attribute.Source s)) = record { makes = refl; consumes = refl }
+silent_got z h (Some (attribute.SourceConfig s)) = record { makes = refl; consumes = refl }
+silent_got z h (Some (attribute.SourceSync s)) = record { makes = refl; consumes = refl }
+silent_got z h None = record { makes = refl; consumes = refl }
+
 -- what an operation answers that is on no word, and no route
 pub silent : (z : Start) (h : List Entry) (o : Op) → ((s : ℕ) → o ≢ op.Route s) → IsSilent (answer_on z h o (part_beside o))
 silent z h (op.Route s) other = absurd (other s refl)
@@ -87,6 +105,8 @@ silent z h (op.Read e) other =
     silent_if (is_valid c && enqueues c) _ _
     (silent_if (top_bit (word_at z h (place c j)) == generation c j) _ _ (record { makes = refl; consumes = refl }) (record { makes = refl; consumes = refl }))
     (record { makes = refl; consumes = refl })
+silent z h (op.AttrGet group number) other = silent_got z h (attribute_of group number)
+silent z h (op.VpGet v) other = silent_if (is_success (vp_state_code z h v)) _ _ (record { makes = refl; consumes = refl }) (record { makes = refl; consumes = refl })
 silent z h (op.Peek addr) other = silent_if (fits (ram_size z.board) addr 4) _ _ (record { makes = refl; consumes = refl }) (record { makes = refl; consumes = refl })
 silent z h (op.Zero addr len) other = silent_if (fits (ram_size z.board) addr len) _ _ (record { makes = refl; consumes = refl }) (record { makes = refl; consumes = refl })
 silent z h _ other = record { makes = refl; consumes = refl }

@@ -22,7 +22,7 @@ use Rattle.esb_pq.specs.Applied.{cell_at}
 use Rattle.xv_model.proofs.Elements.{read}
 use Rattle.fabric_core.specs.Fabric.{Held as FabricHeld, StandsFor as FabricStandsFor}
 use Rattle.machine.specs.Answering.{forwarded_in, consumed_in, forwards_in, forwards_for}
-use Rattle.machine.specs.Machine.{Held, AreParts, StandsFor, word_of}
+use Rattle.machine.specs.Machine.{Held, AreOldPairs, AreParts, StandsFor, word_of}
 use Rattle.machine.proofs.Words.{IsOn, answer_at, word_past, word_parts, word_legal}
 use Rattle.machine.proofs.Notices.{routes_s, word_notices, word_consumes, on_no_word, unrouted, quiet_notices, routed_within, route_notices, route_forwards}
 use Rattle.machine.proofs.Silent.{silent}
@@ -136,11 +136,12 @@ pub entry_of : (x : Entry) (actor : ℕ) (o : Op) → x.actor ≡ actor → x.op
 entry_of x actor o a e = ap (λ v. record { actor = v; op = x.op; outcome = x.outcome }) a ∙ ap (λ p. record { actor = actor; op = p; outcome = x.outcome }) e
 
 -- the machine after a step, whose parts represent the account with the entry
-pub stands_after : (m m' : Held) (z : Start) (h : List Entry) (x : Entry) → StandsFor m z h → AreParts m'.fabric m'.words z (x ∷ h) →
+pub stands_after : (m m' : Held) (z : Start) (h : List Entry) (x : Entry) → StandsFor m z h → AreParts m'.fabric m'.words z (x ∷ h) → AreOldPairs m'.old_pairs z (x ∷ h) →
     m'.count ≡ m.count + 1 → all_outstanding z (x ∷ h) + consumed_in x.outcome ≡ all_outstanding z h + forwarded_in x.outcome →
     m'.notices ≡ m.notices + forwarded_in x.outcome - consumed_in x.outcome → StandsFor m' z (x ∷ h)
-stands_after m m' z h x st parts count_is left_is notices_are = record {
+stands_after m m' z h x st parts pairs count_is left_is notices_are = record {
   parts = parts;
+  old_pairs = pairs;
   index = count_is ∙ add-one m.count ∙ ap suc st.index;
   notices = let before = st.notices in omega (arith, before, left_is, notices_are);
 }

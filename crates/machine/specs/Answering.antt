@@ -1,12 +1,15 @@
 -- What a step goes by: how a source answers accesses to its pages, and what an outcome does to the notices that are
 -- outstanding.
 use Rattle.std.specs.Prelude.{ℕ, ◌==◌, Bool, false, if◌then◌else◌, List, Option, Some, None, slice_index_or}
+use Rattle.std.specs.Option.{option_map_or}
 use Rattle.xv_model.specs.declared.board.Board.{Board}
 use Rattle.xv_model.specs.declared.outcomes.Outcome.{Outcome}
 use Rattle.xv_model.specs.declared.outcomes.Outcome.TheVariants as out
 use Rattle.xv_model.specs.declared.operations.Op.{Op}
 use Rattle.xv_model.specs.declared.operations.Op.TheVariants as op
+use Rattle.xv_model.specs.declared.operations.PqOp.{PqOp}
 use Rattle.xv_model.specs.account.Kinds.{WordAccess as AnAccess}
+use Rattle.xv_model.specs.source.Pairs.{change_in, old_in}
 use Rattle.esb_pq.specs.Word.{SourceParts}
 use Rattle.machine.specs.declared.accessing.WordAccess.{WordAccess}
 use Rattle.esb_mmio.specs.declared.pages.SourceKind.{SourceKind}
@@ -29,6 +32,10 @@ consumed_in _ = 0
 abbrev pub as_access : Option WordAccess → Option AnAccess
 as_access (Some a) = Some (record { source = a.s; op = a.op })
 as_access None = None
+
+-- the pair before the last set of a source, after an operation on its word that answers so
+abbrev pub old_after : PqOp → Outcome → ℕ → ℕ
+old_after o u before = option_map_or (λ c. old_in o c.old before) (change_in u) before
 
 -- how often the source of this number forwarded
 abbrev pub forwards_in : List SourceParts → ℕ → ℕ

@@ -5,17 +5,18 @@ use Rattle.xv_model.specs.declared.entries.Entry.{Entry}
 use Rattle.xv_model.specs.board.Boards.{is_level}
 use Rattle.xv_model.specs.account.Start.{Start}
 use Rattle.xv_model.specs.account.Burden.{weight}
-use Rattle.xv_model.specs.source.Pairs.{pq, asserted}
+use Rattle.xv_model.specs.source.Pairs.{pq, asserted, old_pair}
 use Rattle.xv_model.specs.source.Notices.{forwards, routes, all_outstanding}
 use Rattle.xv_model.specs.account.Index.{next_index}
 use Rattle.esb_pq.specs.Word.{SourceParts}
 use Rattle.fabric_core.specs.Fabric.{Held as FabricHeld, StandsFor as FabricStandsFor}
 
--- what a machine keeps: the fabric, the words of sources, how many entries were made, and how many notices are
--- outstanding
+-- what a machine keeps: the fabric, the words of sources and the pair of each before the last set of it, how many
+-- entries were made, and how many notices are outstanding
 pub record Held : Type 0 where
   pub fabric : FabricHeld
   pub words : List SourceParts
+  pub old_pairs : List ℕ
   pub count : ℕ
   pub notices : ℕ
 
@@ -33,9 +34,14 @@ pub record AreParts (f : FabricHeld) (ws : List SourceParts) (z : Start) (h : Li
   pub words : (s : ℕ) → s < z.board.limits.sources → slice_get ws s ≡ Some (word_of z h s)
   pub forwarded : (s : ℕ) → routes z h s ≤ forwards z h s
 
+-- each of these is the pair that its source had before the last set of it
+abbrev pub AreOldPairs : List ℕ → Start → List Entry → Type 0
+AreOldPairs pairs z h = (s : ℕ) → s < z.board.limits.sources → slice_get pairs s ≡ Some (old_pair z h s)
+
 -- the machine represents the account: its parts and its counts are what the account gives
 pub record StandsFor (m : Held) (z : Start) (h : List Entry) : Type 0 where
   pub parts : AreParts m.fabric m.words z h
+  pub old_pairs : AreOldPairs m.old_pairs z h
   pub index : m.count ≡ next_index z h
   pub notices : m.notices ≡ all_outstanding z h
 
@@ -43,3 +49,7 @@ pub record StandsFor (m : Held) (z : Start) (h : List Entry) : Type 0 where
 -- represents
 abbrev pub burden_of : Held → ℕ
 burden_of m = 4 * m.notices + weight m.fabric.tables.messages
+
+-- the machine after one more entry, with all else as it was
+abbrev pub one_more : Held → Held
+one_more m = record { fabric = m.fabric; words = m.words; old_pairs = m.old_pairs; count = m.count + 1; notices = m.notices }

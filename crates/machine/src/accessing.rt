@@ -5,11 +5,13 @@ ghost use Rattle.xv_model.specs.board.Boards.{is_level};
 ghost use Rattle.xv_model.specs.board.Validity.{has_op, valid};
 ghost use Rattle.xv_model.specs.account.Kinds.{access_of};
 ghost use Rattle.xv_model.specs.account.Legal.{answer_by};
+ghost use Rattle.xv_model.specs.declared.outcomes.Outcome.TheVariants.{Spent};
 ghost use Rattle.xv_model.specs.account.Outcomes.{IsWellFormed};
 ghost use Rattle.esb_pq.specs.Applied.{cell_at, by_table, word_in};
-ghost use Rattle.machine.specs.Answering.{kind_on, as_access};
+ghost use Rattle.machine.specs.Answering.{kind_on, as_access, old_after};
 ghost use Rattle.machine.specs.Machine.{AreLevels};
 
+use crate::pairs::Pair;
 use esb_mmio::{EsbOp, SourceKind, decode};
 use esb_pq::{SourceWord, apply, outcome_of, word_after};
 use xv_model::board::Board;
@@ -67,10 +69,23 @@ pub(crate) fn touch(word: &mut SourceWord, level: bool, op: PqOp) -> Outcome
     requires { IsTrue (has_op level op) }
     ensures outcome { result ≡ answer_by (cell_at word.old level op) word.old.pq word.old.count }
     ensures word { word.new ≡ word_in word.old (by_table word.old level op) }
+    ensures spent { result ≡ Spent → word.new ≡ word.old }
     ensures well_formed { IsWellFormed result }
 {
     let old = *word;
     let applied = apply(old, level, op);
     *word = word_after(old, &applied);
     outcome_of(old, &applied)
+}
+
+/// Keeps the pair that a source had before a set of it, which answered so.
+pub(crate) fn remember(old_pair: &mut Pair, op: PqOp, outcome: &Outcome)
+    requires { IsWellFormed outcome.now }
+    ensures { old_pair.new ≡ old_after op outcome.now old_pair.old }
+{
+    if let PqOp::Set { .. } = op {
+        if let Outcome::Pq { old, .. } = outcome {
+            *old_pair = Pair::of(*old);
+        }
+    }
 }

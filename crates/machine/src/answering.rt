@@ -9,10 +9,12 @@ ghost use Rattle.xv_model.specs.account.Legal.{legal};
 ghost use Rattle.xv_model.specs.account.Outcomes.{IsWellFormed};
 ghost use Rattle.xv_model.specs.board.Validity.{valid};
 ghost use Rattle.end_queue.specs.Ends.{HasRoom, HasCountsAtMost};
+ghost use Rattle.fabric_core.specs.Fabric.{IsRefusal};
 ghost use Rattle.machine.specs.Answering.{forwarded_in, consumed_in, forwards_for};
-ghost use Rattle.machine.specs.Machine.{AreLevels, AreParts};
+ghost use Rattle.machine.specs.Machine.{AreLevels, AreOldPairs, AreParts};
 
-use crate::accessing::{touch, word_access};
+use crate::accessing::{remember, touch, word_access};
+use crate::pairs::Pair;
 use esb_pq::SourceWord;
 use fabric_core::Fabric;
 use xv_model::operations::Op;
@@ -30,22 +32,29 @@ fn forwards(words: &[SourceWord], op: &Op) -> u64
     }
 }
 
-/// What an operation by an actor answers. The fabric and the words then represent the account with its entry.
+/// What an operation by an actor answers. The fabric, the words and the pairs before the last sets of sources then
+/// represent the account with its entry. Refused, it changes none of them.
 pub(crate) fn enter(
     fabric: &mut Fabric,
     words: &mut [SourceWord],
+    old_pairs: &mut [Pair],
     levels: &[bool],
     actor: u32,
     op: &Op,
 ) -> Outcome
     requires op { IsTrue (valid fabric.old.tables.board op.now) }
     requires words { length words.old ≡ fabric.old.tables.board.limits.sources }
+    requires old_pairs { length old_pairs.old ≡ fabric.old.tables.board.limits.sources }
     requires sources { length levels.now ≡ fabric.old.tables.board.limits.sources }
     requires levels { AreLevels fabric.old.tables.board levels.now }
     requires room { All HasRoom fabric.old.tables.ends }
     ensures outcome { (z : Start) (h : List Entry) → AreParts fabric.old words.old z h → result ≡ legal z h op.now }
     ensures parts { (z : Start) (h : List Entry) → AreParts fabric.old words.old z h
         → AreParts fabric.new words.new z (record { actor = actor; op = op.now; outcome = result } ∷ h) }
+    ensures old_pairs { (z : Start) (h : List Entry) → fabric.old.tables.board ≡ z.board → AreOldPairs old_pairs.old z h
+        → AreOldPairs old_pairs.new z (record { actor = actor; op = op.now; outcome = result } ∷ h) }
+    ensures refused { IsRefusal op.now result
+        → (fabric.new ≡ fabric.old) × (words.new ≡ words.old) × (old_pairs.new ≡ old_pairs.old) }
     ensures notices { (z : Start) (h : List Entry) → AreParts fabric.old words.old z h
         → all_outstanding z (record { actor = actor; op = op.now; outcome = result } ∷ h) + consumed_in result
         ≡ all_outstanding z h + forwarded_in result }
@@ -54,13 +63,15 @@ pub(crate) fn enter(
     ensures counts { (n : ℕ) → All (HasCountsAtMost n) fabric.old.tables.ends
         → All (HasCountsAtMost (n + 1)) fabric.new.tables.ends }
     ensures len { length words.new ≡ length words.old }
+    ensures pairs { length old_pairs.new ≡ length old_pairs.old }
 {
     match word_access(fabric.board(), levels, op) {
-        Some(access) => touch(
-            &mut words[access.s as usize],
-            levels[access.s as usize],
-            access.op,
-        ),
+        Some(access) => {
+            let s = access.s as usize;
+            let outcome = touch(&mut words[s], levels[s], access.op);
+            remember(&mut old_pairs[s], access.op, &outcome);
+            outcome
+        }
         None => fabric.step(actor, op, forwards(words, op)).outcome,
     }
 }

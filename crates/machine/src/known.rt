@@ -19,7 +19,7 @@ impl Known for Machine {
         self.fabric.initialised(s)
     }
 
-    fn pq(&self, s: u32) -> u8 {
-        self.words[s as usize].pq()
+    fn old_pair(&self, s: u32) -> u8 {
+        self.old_pairs[s as usize].bits()
     }
 }

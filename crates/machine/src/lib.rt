@@ -12,6 +12,7 @@ mod answering;
 mod known;
 mod levels;
 mod machine;
+mod pairs;
 #[cfg(test)]
 mod tests;
 mod views;

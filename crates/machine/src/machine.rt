@@ -8,13 +8,14 @@ ghost use Rattle.xv_model.specs.account.Start.{Start, start};
 ghost use Rattle.xv_model.specs.account.Legal.{legal};
 ghost use Rattle.xv_model.specs.account.Outcomes.{IsWellFormed};
 ghost use Rattle.xv_model.specs.board.Validity.{valid};
-ghost use Rattle.machine.specs.Machine.{StandsFor};
+ghost use Rattle.machine.specs.Machine.{StandsFor, one_more};
 ghost use Rattle.machine.specs.Views.{source_view};
-ghost use Rattle.fabric_core.specs.Fabric.{IsQueue, queue_view};
+ghost use Rattle.fabric_core.specs.Fabric.{IsQueue, IsRefusal, queue_view};
 ghost use Rattle.fabric_core.specs.Processors.{vp_of, ring_shown};
 
 use crate::answering::{consumed_by, enter, notices_of};
 use crate::levels::levels_of;
+use crate::pairs::Pair;
 use crate::views::SourceView;
 use esb_pq::SourceWord;
 use fabric_core::{Fabric, QueueView};
@@ -27,12 +28,13 @@ use xv_model::board::Board;
 use xv_model::entries::Entry;
 use xv_model::operations::Op;
 
-/// The state of a board: the fabric, a word for each source and whether it is a level source, how many entries
-/// were made, and how many notices are outstanding.
+/// The state of a board: the fabric, a word for each source, the pair that it had before the last set of it and
+/// whether it is a level source, how many entries were made, and how many notices are outstanding.
 #[derive(Drop)]
 pub struct Machine {
     pub(crate) fabric: Fabric,
     pub(crate) words: Vec<SourceWord>,
+    pub(crate) old_pairs: Vec<Pair>,
     levels: Vec<bool>,
     count: u64,
     notices: u64,
@@ -48,11 +50,13 @@ impl Model for Machine {
     ghost view = { λ m. record {
       fabric = m.fabric;
       words = m.words.items;
+      old_pairs = m.old_pairs.items;
       count = m.count;
       notices = m.notices;
     } };
 
     ghost invariant = { λ m. (vec_len m.words ≡ m.fabric.tables.board.limits.sources)
+        × (vec_len m.old_pairs ≡ m.fabric.tables.board.limits.sources)
         × (vec_len m.levels ≡ m.fabric.tables.board.limits.sources)
         × AreLevels m.fabric.tables.board m.levels.items
         × (m.notices ≤ m.count) × All (HasCountsAtMost m.count) m.fabric.tables.ends };
@@ -70,6 +74,7 @@ impl Machine {
         Ok(Machine {
             fabric: Fabric::build(alloc, board)?,
             words: vec![in alloc; SourceWord::off(); board.limits.sources as usize]?,
+            old_pairs: vec![in alloc; Pair::off(); board.limits.sources as usize]?,
             levels: levels_of(alloc, board)?,
             count: 0,
             notices: 0,
@@ -150,7 +155,8 @@ impl Machine {
     }
 
     /// Makes one entry: what an operation by an actor answers. The board has the operation, and the
-    /// machine has made no more entries than an account may have.
+    /// machine has made no more entries than an account may have. Refused, it changes nothing but their number;
+    /// nor does an `Op::Quiet`, `Op::Peek`, `Op::AttrGet` or `Op::VpGet`.
     pub fn step(&mut self, actor: u32, op: &Op) -> Entry
         requires op { IsTrue (valid self.old.fabric.tables.board op.now) }
         requires count { self.old.count ≤ most_entries }
@@ -163,8 +169,16 @@ impl Machine {
             → StandsFor self.old z h → result.outcome ≡ legal z h op.now }
         ensures stands { (z : Start) (h : List AnEntry)
             → StandsFor self.old z h → StandsFor self.new z (result ∷ h) }
+        ensures refused { IsRefusal op.now result.outcome → self.new ≡ one_more self.old }
     {
-        let outcome = enter(&mut self.fabric, &mut self.words, &self.levels, actor, op);
+        let outcome = enter(
+            &mut self.fabric,
+            &mut self.words,
+            &mut self.old_pairs,
+            &self.levels,
+            actor,
+            op,
+        );
         self.count += 1;
         // A notice that is consumed was outstanding.
         self.notices = (self.notices + notices_of(&outcome)).saturating_sub(consumed_by(&outcome));

@@ -19,6 +19,7 @@ use xv_base::limits::{ENDS_PER_PROCESSOR, MOST_ENTRIES};
 use xv_model::board::{Board, Span, Spans};
 use xv_model::hypercalls::H_INT_SET_SOURCE_CONFIG;
 use xv_model::hypercalls::flags::SRC_SET_EISN;
+use xv_model::known::Known;
 use xv_model::operations::{Access, EndConfig, EndFlags, Op, PqOp};
 use xv_model::outcomes::{EndRun, Outcome, Presented, Routed, Then};
 use xv_model::validity::valid;
@@ -84,6 +85,12 @@ pub fn step(rt: &impl Abort, machine: &mut Machine, op: &Op) -> Outcome {
 pub fn source(rt: &impl Abort, machine: &Machine, s: u32) -> SourceView {
     assert!(rt; s < machine.board().limits.sources);
     machine.source(s)
+}
+
+/// The pair that a source had before the last set of it, after it was asked whether the board has it.
+pub fn old_pair(rt: &impl Abort, machine: &Machine, s: u32) -> u8 {
+    assert!(rt; s < machine.board().limits.sources);
+    machine.old_pair(s)
 }
 
 /// An END, after it was asked whether the board has it.

@@ -8,10 +8,11 @@ use xv_model::known::Known;
 use xv_model::operations::Op;
 use xv_model::outcomes::Outcome;
 
-/// What a line may ask of a source: its outstanding notices, whether it has a valid EAS, and its pair.
+/// What a line may ask of a source: its outstanding notices, whether it has a valid EAS, and the pair that it
+/// had before it was last set.
 fn known(rt: &impl Abort, machine: &Machine, s: u32) -> (u64, bool, u8) {
     assert!(rt; s < machine.board().limits.sources);
-    (machine.out(s), machine.initialised(s), machine.pq(s))
+    (machine.out(s), machine.initialised(s), machine.old_pair(s))
 }
 
 #[test]
@@ -24,9 +25,9 @@ fn a_queue_and_its_views(rt: HostRuntime) -> Result<(), Fail> {
     step(&rt, m, &target(0, 0, 0, 0x10));
     step(&rt, m, &set(0));
     step(&rt, m, &trigger(0));
-    assert_eq!(rt; known(&rt, m, 0), (1, true, 2));
+    assert_eq!(rt; known(&rt, m, 0), (1, true, 1));
     assert!(rt; reached(routed(&rt, m, 0), 1, 0, true));
-    assert_eq!(rt; known(&rt, m, 0), (0, true, 2));
+    assert_eq!(rt; known(&rt, m, 0), (0, true, 1));
     assert_eq!(rt; known(&rt, m, 2), (0, false, 1));
     let source = source(&rt, m, 0);
     assert_eq!(rt; source.pq, 2);
@@ -40,6 +41,8 @@ fn a_queue_and_its_views(rt: HostRuntime) -> Result<(), Fail> {
     assert_eq!(rt; queue.esn, 2);
     assert_eq!(rt; queue.ese, 0);
     assert_eq!(rt; m.board().limits.sources, 4);
+    step(&rt, m, &set(0));
+    assert_eq!(rt; known(&rt, m, 0), (0, true, 2));
     Ok(())
 }
 

@@ -1,7 +1,7 @@
 //! The words of sources, by operations and by accesses to their pages.
 
 use crate::Machine;
-use crate::tests::{changed, eoi, set, small_board, source, step, trigger};
+use crate::tests::{changed, eoi, old_pair, set, small_board, source, step, trigger};
 use std::test::Fail;
 use xv_model::operations::{Op, PqOp};
 use xv_model::outcomes::Outcome;
@@ -50,5 +50,28 @@ fn an_interrupt_by_loads_and_stores(rt: HostRuntime) -> Result<(), Fail> {
     assert!(rt; changed(&step(&rt, m, &access(0, 1, 0x7ff, false)), 3, 2, 2));
     assert_eq!(rt; source(&rt, m, 0).forwards, 2);
     assert_eq!(rt; m.notices(), 2);
+    Ok(())
+}
+
+#[test]
+fn the_pair_before_the_last_set(rt: HostRuntime) -> Result<(), Fail> {
+    let board = small_board();
+    let mut machine = Machine::build(rt.alloc(), &board)?;
+    let m = &mut machine;
+    assert_eq!(rt; old_pair(&rt, m, 0), 1);
+    assert!(rt; changed(&step(&rt, m, &set(0)), 1, 0, 0));
+    assert_eq!(rt; old_pair(&rt, m, 0), 1);
+    assert!(rt; changed(&step(&rt, m, &trigger(0)), 0, 2, 1));
+    assert_eq!(rt; old_pair(&rt, m, 0), 1);
+    assert!(rt; changed(&step(&rt, m, &access(0, 1, 0xd00, false)), 2, 1, 0));
+    assert_eq!(rt; old_pair(&rt, m, 0), 2);
+    assert!(rt; changed(&step(&rt, m, &eoi(0)), 1, 1, 0));
+    let init = Op::Pq {
+        s: 0,
+        op: PqOp::Init { asserted: false },
+    };
+    assert!(rt; changed(&step(&rt, m, &init), 1, 1, 0));
+    assert_eq!(rt; old_pair(&rt, m, 0), 2);
+    assert_eq!(rt; (old_pair(&rt, m, 1), old_pair(&rt, m, 3)), (1, 1));
     Ok(())
 }

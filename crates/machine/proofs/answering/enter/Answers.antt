@@ -1,4 +1,5 @@
-use Rattle.std.proofs.Common.{◌≡◌, ◌<◌, ◌+◌, true, List, ◌∷◌, None, refl, sym, ◌∙◌, ap, subst, slice_index_or, slice_set}
+use Rattle.std.proofs.Common.{◌≡◌, ◌<◌, ◌+◌, true, List, ◌∷◌, Some, None, refl, sym, ◌∙◌, ap, subst, slice_index_or, slice_set}
+use Rattle.std.proofs.lemmas.List.{set-get_or}
 use Rattle.xv_model.specs.declared.board.Board.{Board}
 use Rattle.xv_model.specs.declared.entries.Entry.{Entry}
 use Rattle.xv_model.specs.account.Start.{Start}
@@ -11,11 +12,13 @@ use Rattle.xv_model.specs.source.Notices.{all_outstanding}
 use Rattle.machine.specs.Answering.{consumed_in, forwarded_in}
 use Rattle.machine.specs.Machine.{AreParts}
 use Rattle.machine.proofs.Stepping.{Steps, word_steps, fabric_steps, counted, entry_of, valid_source}
+use Rattle.machine.proofs.OldPairs.{left, remembered}
+use Rattle.machine.proofs.Refusals.{none_remembered, spent}
 use Rattle.machine.proofs.answering.enter.Goals as goal
 
-word : (c : goal.After-touch) (z : Start) (h : List Entry) → AreParts c.args.fabric.now c.args.words.now z h →
-    Steps c.args.fabric.now c.args.words.now c.args.fabric.now (slice_set c.args.words.now c.in-Some.access.s c.touch.new.word) z h
-    (record { actor = c.args.actor; op = c.args.op.now; outcome = c.touch.result })
+word : (c : goal.After-remember) (z : Start) (h : List Entry) → AreParts c.args.fabric.now c.args.words.now z h →
+    Steps c.args.fabric.now c.args.words.now c.args.fabric.now (slice_set c.args.words.now c.in-Some.access.s c.touch-outcome.new.word) z h
+    (record { actor = c.args.actor; op = c.args.op.now; outcome = c.touch-outcome.result })
 word c z h st =
     let a = c.in-Some.access in
     let b : c.args.fabric.now.tables.board ≡ z.board = st.fabric.tables.board in
@@ -23,15 +26,37 @@ word c z h st =
     let inside = subst (λ (b : Board). a.s < b.limits.sources) b below in
     let on = sym (ap (λ (b : Board). access_of b c.args.op.now) (c.board.ensures.value ∙ b)) ∙ c.in-Some.ensures.value in
     let level = c.requires.levels a.s _ (subst (λ n. a.s < n) (sym c.requires.sources) below) ∙ ap (λ (b : Board). is_level b a.s) b in
-    word_steps c.args.fabric.now c.args.words.now z h (record { actor = c.args.actor; op = c.args.op.now; outcome = c.touch.result }) a.s a.op _
-    (slice_index_or c.args.words.now a.s c.index-words-access.result) c.touch.new.word
-    c.index-words-access.result st on inside level refl c.touch.ensures.outcome c.touch.ensures.word
+    word_steps c.args.fabric.now c.args.words.now z h (record { actor = c.args.actor; op = c.args.op.now; outcome = c.touch-outcome.result }) a.s a.op _
+    (slice_index_or c.args.words.now a.s c.index-words-s.result) c.touch-outcome.new.word
+    c.index-words-s.result st on inside level refl c.touch-outcome.ensures.outcome c.touch-outcome.ensures.word
 
 pub returns-in-Some-clause-parts : goal.returns-in-Some-clause-parts
 returns-in-Some-clause-parts c = λ z h st. (word c z h st).parts
 
 pub returns-in-Some-clause-notices : goal.returns-in-Some-clause-notices
 returns-in-Some-clause-notices c = λ z h st. (word c z h st).notices
+
+-- where it is refused, no more can be counted
+on_its_word : (c : goal.After-remember) → access_of c.args.fabric.now.tables.board c.args.op.now ≡ Some (record { source = c.in-Some.access.s; op = c.in-Some.access.op })
+on_its_word c = sym (ap (λ (b : Board). access_of b c.args.op.now) c.board.ensures.value) ∙ c.in-Some.ensures.value
+
+pub returns-in-Some-clause-refused : goal.returns-in-Some-clause-refused
+returns-in-Some-clause-refused c = λ r.
+    let a = c.in-Some.access in
+    let u = spent c.args.fabric.now.tables.board c.args.op.now a.s a.op _ (slice_index_or c.args.words.now a.s c.index-words-s.result) c.touch-outcome.result (on_its_word c) c.touch-outcome.ensures.outcome r in (
+      refl,
+      ap (slice_set c.args.words.now a.s) (c.touch-outcome.ensures.spent u) ∙ set-get_or c.args.words.now a.s c.index-words-s.result,
+      ap (slice_set c.args.old_pairs.now a.s) (c.remember.ensures ∙ none_remembered a.op c.touch-outcome.result _ u) ∙ set-get_or c.args.old_pairs.now a.s _,
+    )
+
+pub returns-in-Some-clause-old_pairs : goal.returns-in-Some-clause-old_pairs
+returns-in-Some-clause-old_pairs c = λ z h b st.
+    let a = c.in-Some.access in
+    let below : a.s < c.args.fabric.now.tables.board.limits.sources = subst (λ (b : Board). a.s < b.limits.sources) c.board.ensures.value c.in-Some.ensures.source in
+    let inside = subst (λ (b : Board). a.s < b.limits.sources) b below in
+    let on = subst (λ (b : Board). access_of b c.args.op.now ≡ Some (record { source = a.s; op = a.op })) b (on_its_word c) in
+    remembered c.args.old_pairs.now z h (record { actor = c.args.actor; op = c.args.op.now; outcome = c.touch-outcome.result }) a.s a.op
+    _ c.remember.new.old_pair _ st on inside refl c.remember.ensures
 
 -- the forwards that are handed in are those of the source that is routed, or asked
 is_counted : (c : goal.After-step) (z : Start) (h : List Entry) → AreParts c.args.fabric.now c.args.words.now z h → IsCounted c.args.op.now c.forwards.result z h
@@ -63,3 +88,11 @@ returns-in-None-clause-parts c = λ z h st. subst (λ (x : Entry). AreParts c.st
 pub returns-in-None-clause-notices : goal.returns-in-None-clause-notices
 returns-in-None-clause-notices c = λ z h st.
     subst (λ (x : Entry). all_outstanding z (x ∷ h) + consumed_in c.step.result.outcome ≡ all_outstanding z h + forwarded_in c.step.result.outcome) (entered c) (beside c z h st).notices
+
+pub returns-in-None-clause-old_pairs : goal.returns-in-None-clause-old_pairs
+returns-in-None-clause-old_pairs c = λ z h b st.
+    let none = sym (ap (λ (b : Board). access_of b c.args.op.now) (c.board.ensures.value ∙ b)) ∙ c.in-None.ensures.value in
+    left c.args.old_pairs.now z h (record { actor = c.args.actor; op = c.args.op.now; outcome = c.step.result.outcome }) st none
+
+pub returns-in-None-clause-refused : goal.returns-in-None-clause-refused
+returns-in-None-clause-refused c = λ r. (c.step.ensures.refused r, refl, refl)
