@@ -1,4 +1,4 @@
-pub mod Built
+pub mod Valid
 pub mod Digits
 pub mod Outputs
 pub mod Ranges

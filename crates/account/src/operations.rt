@@ -3,12 +3,12 @@
 ghost use Rattle.std.specs.Prelude.{◌≡◌, ◌+◌, ◌≤◌, ◌++◌, true, IsTrue};
 ghost use Rattle.arrayvec.specs.ArrayVec.{array_vec_len};
 ghost use Rattle.xv_model.specs.board.Validity.{has_op};
-ghost use Rattle.account.specs.text.Operations.{pq_op_text, access_text, page_text, tima_text, tima_access_text, op_text, is_processor_op, is_built, flag_text, flags_text, target_text, event_queue_text, escalation_text, config_text, arguments_text};
+ghost use Rattle.account.specs.text.Operations.{pq_op_text, access_text, page_text, tima_text, tima_access_text, fields_text, attribute_text, op_text, is_processor_op, is_device_op, has_text, flag_text, flags_text, target_text, event_queue_text, escalation_text, config_text, arguments_text};
 
 use crate::numbers::{add, add_hex, add_pair, add_short_number};
 use arrayvec::ArrayVec;
 use bitflags::Flags;
-use xv_model::operations::{Access, EndConfig, EndFlags, Op, PqOp};
+use xv_model::operations::{Access, AttrValue, EndConfig, EndFlags, EqFields, Op, PqOp};
 
 /// The room that the text of an operation wants, in bytes.
 pub const LONGEST_OP: usize = 119;
@@ -39,6 +39,12 @@ const LONGEST_TIMA: usize = 51;
 
 /// The room that an access to the TIMA wants, in bytes.
 const LONGEST_TIMA_ACCESS: usize = 77;
+
+/// The room that the fields of a queue of the KVM device want, in bytes.
+pub const LONGEST_FIELDS: usize = 70;
+
+/// The room that a call to the KVM device wants, in bytes.
+const LONGEST_DEVICE_OP: usize = 95;
 
 fn add_pq_op<const CAP: usize>(text: &mut ArrayVec<u8, CAP>, op: PqOp, s: u32)
     requires room { array_vec_len text.old + LONGEST_PQ_OP ≤ CAP }
@@ -279,10 +285,88 @@ fn add_processor_op<const CAP: usize>(text: &mut ArrayVec<u8, CAP>, op: &Op)
     }
 }
 
-/// Appends the text of an operation that is built.
+/// Appends the fields of a queue of the KVM device.
+pub fn add_fields<const CAP: usize>(text: &mut ArrayVec<u8, CAP>, eq: &EqFields)
+    requires { array_vec_len text.old + LONGEST_FIELDS ≤ CAP }
+    ensures items { text.new.items ≡ text.old.items ++ fields_text eq.now }
+    ensures len { array_vec_len text.new ≤ array_vec_len text.old + LONGEST_FIELDS }
+{
+    add_hex(text, eq.flags as u64);
+    text.push(b' ');
+    add_short_number(text, eq.qshift);
+    text.push(b' ');
+    add_hex(text, eq.qaddr);
+    text.push(b' ');
+    add_short_number(text, eq.qtoggle);
+    text.push(b' ');
+    add_short_number(text, eq.qindex);
+}
+
+/// What an attribute of the KVM device is set to.
+fn add_attribute<const CAP: usize>(
+    text: &mut ArrayVec<u8, CAP>,
+    group: u32,
+    attr: u64,
+    value: &AttrValue,
+)
+    requires { array_vec_len text.old + LONGEST_DEVICE_OP ≤ CAP }
+    ensures items { text.new.items ≡ text.old.items ++ attribute_text group attr value.now }
+    ensures len { array_vec_len text.new ≤ array_vec_len text.old + LONGEST_DEVICE_OP }
+{
+    match value {
+        AttrValue::Number { value } => {
+            add(text, b"kvmset ");
+            add_short_number(text, group);
+            text.push(b' ');
+            add_hex(text, attr);
+            text.push(b' ');
+            add_hex(text, *value);
+        }
+        AttrValue::Queue { eq } => {
+            add(text, b"kvmeq ");
+            add_hex(text, attr);
+            text.push(b' ');
+            add_fields(text, eq);
+        }
+    }
+}
+
+/// A call to the KVM device. It stays a call, as [`add_processor_op`] does.
+#[inline(never)]
+fn add_device_op<const CAP: usize>(text: &mut ArrayVec<u8, CAP>, op: &Op)
+    requires room { array_vec_len text.old + LONGEST_DEVICE_OP ≤ CAP }
+    requires op { IsTrue (is_device_op op.now) }
+    ensures items { text.new.items ≡ text.old.items ++ op_text op.now }
+    ensures len { array_vec_len text.new ≤ array_vec_len text.old + LONGEST_DEVICE_OP }
+{
+    match op {
+        Op::AttrSet { group, attr, value } => add_attribute(text, *group, *attr, value),
+        Op::AttrGet { group, attr } => {
+            add(text, b"kvmget ");
+            add_short_number(text, *group);
+            text.push(b' ');
+            add_hex(text, *attr);
+        }
+        Op::VpGet { v } => {
+            add(text, b"vpget ");
+            add_short_number(text, *v);
+        }
+        Op::VpSet { v, cppr, ipb } => {
+            add(text, b"vpset ");
+            add_short_number(text, *v);
+            text.push(b' ');
+            add_hex(text, *cppr as u64);
+            text.push(b' ');
+            add_hex(text, *ipb as u64);
+        }
+        _ => unreachable!(),
+    }
+}
+
+/// Appends the text of an operation. One that a board has says all of it by its text.
 pub fn add_op<const CAP: usize>(text: &mut ArrayVec<u8, CAP>, op: &Op)
     requires room { array_vec_len text.old + LONGEST_OP ≤ CAP }
-    requires op { IsTrue (is_built op.now) }
+    requires op { IsTrue (has_text op.now) }
     ensures items { text.new.items ≡ text.old.items ++ op_text op.now }
     ensures len { array_vec_len text.new ≤ array_vec_len text.old + LONGEST_OP }
 {
@@ -346,6 +430,8 @@ pub fn add_op<const CAP: usize>(text: &mut ArrayVec<u8, CAP>, op: &Op)
         | Op::Restore { .. }
         | Op::Save { .. }
         | Op::Tima { .. } => add_processor_op(text, op),
-        _ => unreachable!(),
+        Op::AttrSet { .. } | Op::AttrGet { .. } | Op::VpGet { .. } | Op::VpSet { .. } => {
+            add_device_op(text, op)
+        }
     }
 }

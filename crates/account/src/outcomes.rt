@@ -6,6 +6,7 @@ ghost use Rattle.account.specs.text.Outcomes.{pairs_text, forward_text, outcome_
 ghost use Rattle.xv_model.specs.account.Outcomes.{IsWellFormed};
 
 use crate::numbers::{add, add_hex, add_number, add_pair, add_short_number, add_signed};
+use crate::operations::add_fields;
 use arrayvec::ArrayVec;
 use xv_model::outcomes::{
     EndRun, HReply, MoveRefused, Outcome, Phase, Presented, Routed, Then, Wrote,
@@ -293,7 +294,7 @@ fn add_busy<const CAP: usize>(text: &mut ArrayVec<u8, CAP>, notices: u64, messag
     add_short_number(text, messages);
 }
 
-/// Appends the text of an outcome; one of no operation that is built has none.
+/// Appends the text of an outcome.
 pub fn add_outcome<const CAP: usize>(text: &mut ArrayVec<u8, CAP>, outcome: &Outcome)
     requires room { array_vec_len text.old + LONGEST_OUTCOME ≤ CAP }
     requires outcome { IsWellFormed outcome.now }
@@ -354,6 +355,15 @@ pub fn add_outcome<const CAP: usize>(text: &mut ArrayVec<u8, CAP>, outcome: &Out
             add(text, b"code ");
             add_signed(text, *code as i64);
         }
-        _ => {}
+        Outcome::Queue { eq } => {
+            add(text, b"queue ");
+            add_fields(text, eq);
+        }
+        Outcome::Context { cppr, ipb } => {
+            add(text, b"context ");
+            add_hex(text, *cppr as u64);
+            text.push(b' ');
+            add_hex(text, *ipb as u64);
+        }
     }
 }

@@ -2,9 +2,10 @@
 
 ghost use Rattle.std.specs.Prelude.{ℕ, ◌<◌, ◌≤◌, IsTrue};
 ghost use Rattle.xv_model.specs.board.Boards.{AreBelow, IsBoard};
-ghost use Rattle.account.specs.text.Operations.{is_built};
+ghost use Rattle.account.specs.text.Operations.{has_text};
 ghost use Rattle.xv_model.specs.account.Outcomes.{IsWellFormed};
 
+mod device;
 mod escalations;
 mod processors;
 mod replies;
@@ -26,7 +27,7 @@ type Text = ArrayVec<u8, 4096>;
 
 /// Whether an entry is printed so.
 pub fn prints(index: u64, actor: u32, op: Op, outcome: Outcome, line: &[u8]) -> bool
-    requires op { IsTrue (is_built op) }
+    requires op { IsTrue (has_text op) }
     requires outcome { IsWellFormed outcome }
 {
     let mut text = Text::new();
@@ -169,7 +170,7 @@ fn lines_of_level_sources(rt: HostRuntime) {
 
 /// An access to a page of source 0.
 fn source_access(page: u8, offset: u16, store: bool) -> Op
-    ensures { IsTrue (is_built result) }
+    ensures { IsTrue (has_text result) }
 {
     Op::Esb {
         s: 0,
@@ -211,7 +212,7 @@ fn accesses_to_pages_of_sources(rt: HostRuntime) {
 
 /// A load at a page of an END.
 fn end_load(e: u32, page: u8, offset: u16) -> Op
-    ensures { IsTrue (is_built result) }
+    ensures { IsTrue (has_text result) }
 {
     Op::EndEsb {
         e,

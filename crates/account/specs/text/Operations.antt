@@ -7,7 +7,10 @@ use Rattle.xv_model.specs.declared.operations.Access.TheVariants.{Load, Store}
 use Rattle.xv_model.specs.declared.operations.Op.{Op}
 use Rattle.xv_model.specs.declared.operations.Op.TheVariants as op
 use Rattle.xv_model.specs.declared.operations.EndConfig.{EndConfig}
-use Rattle.xv_model.specs.board.Validity.{has_op}
+use Rattle.xv_model.specs.declared.operations.EqFields.{EqFields}
+use Rattle.xv_model.specs.declared.operations.AttrValue.{AttrValue}
+use Rattle.xv_model.specs.declared.operations.AttrValue.TheVariants.{Number, Queue}
+use Rattle.xv_model.specs.board.Validity.{has_op, has_value}
 use Rattle.xv_model.specs.end.Flags.{has_bit}
 use Rattle.account.specs.text.Numbers.{pair_text, hex}
 
@@ -74,7 +77,18 @@ abbrev pub tima_access_text : ℕ → ℕ → ℕ → ℕ → Access → List �
 tima_access_text t page offset size Load = codes "tload " ++ tima_text t page offset size
 tima_access_text t page offset size (Store value) = codes "tstore " ++ tima_text t page offset size ++ codes " " ++ hex value
 
--- an operation; one that isn't built has no text
+-- the fields of a queue of the KVM device: the flags, the shift, the address, the toggle and the index
+abbrev pub fields_text : EqFields → List ℕ
+fields_text eq =
+    hex eq.flags ++ codes " " ++ decimal eq.qshift ++ codes " " ++ hex eq.qaddr ++ codes " "
+    ++ decimal eq.qtoggle ++ codes " " ++ decimal eq.qindex
+
+-- an attribute of the KVM device is set to a number, or to the fields of a queue, which are for one group alone
+abbrev pub attribute_text : ℕ → ℕ → AttrValue → List ℕ
+attribute_text group number (Number value) = codes "kvmset " ++ decimal group ++ codes " " ++ hex number ++ codes " " ++ hex value
+attribute_text group number (Queue eq) = codes "kvmeq " ++ hex number ++ codes " " ++ fields_text eq
+
+-- an operation
 abbrev pub op_text : Op → List ℕ
 op_text (op.Pq s o) = pq_op_text o s
 op_text (op.Esb s page offset store) = access_text store ++ page_text s page offset
@@ -91,7 +105,10 @@ op_text (op.Connect v) = codes "connect " ++ decimal v
 op_text (op.Restore v t) = codes "restore " ++ decimal v ++ codes " " ++ decimal t
 op_text (op.Save v) = codes "save " ++ decimal v
 op_text (op.Tima t page offset size access) = tima_access_text t page offset size access
-op_text _ = []
+op_text (op.AttrSet group number value) = attribute_text group number value
+op_text (op.AttrGet group number) = codes "kvmget " ++ decimal group ++ codes " " ++ hex number
+op_text (op.VpGet v) = codes "vpget " ++ decimal v
+op_text (op.VpSet v cppr ipb) = codes "vpset " ++ decimal v ++ codes " " ++ hex cppr ++ codes " " ++ hex ipb
 
 -- whether an operation is on processors or rings: a take, a move of a context or an access to the TIMA
 abbrev pub is_processor_op : Op → Bool
@@ -102,21 +119,32 @@ is_processor_op (op.Save v) = true
 is_processor_op (op.Tima t page offset size access) = true
 is_processor_op _ = false
 
--- whether an operation is built, whatever its board, and a pair in it is one
-abbrev pub is_built : Op → Bool
-is_built (op.Pq s o) = has_op true o
-is_built (op.Esb s page offset store) = true
-is_built (op.EndEsb e page offset store) = true
-is_built (op.Route s) = true
-is_built (op.EndSet e c) = true
-is_built (op.Hcall number args) = true
-is_built (op.Read e) = true
-is_built (op.Peek addr) = true
-is_built (op.Zero addr len) = true
-is_built (op.Take i) = true
-is_built (op.Quiet s) = true
-is_built (op.Connect v) = true
-is_built (op.Restore v t) = true
-is_built (op.Save v) = true
-is_built (op.Tima t page offset size access) = true
-is_built _ = false
+-- whether an operation is a call to the KVM device
+abbrev pub is_device_op : Op → Bool
+is_device_op (op.AttrSet group number value) = true
+is_device_op (op.AttrGet group number) = true
+is_device_op (op.VpGet v) = true
+is_device_op (op.VpSet v cppr ipb) = true
+is_device_op _ = false
+
+-- whether the text of an operation says all of it, whatever its board: a pair in it is one, and the fields of a queue are of the group of queues
+abbrev pub has_text : Op → Bool
+has_text (op.Pq s o) = has_op true o
+has_text (op.Esb s page offset store) = true
+has_text (op.EndEsb e page offset store) = true
+has_text (op.Route s) = true
+has_text (op.EndSet e c) = true
+has_text (op.Hcall number args) = true
+has_text (op.Read e) = true
+has_text (op.Peek addr) = true
+has_text (op.Zero addr len) = true
+has_text (op.Take i) = true
+has_text (op.Quiet s) = true
+has_text (op.Connect v) = true
+has_text (op.Restore v t) = true
+has_text (op.Save v) = true
+has_text (op.Tima t page offset size access) = true
+has_text (op.AttrSet group number value) = has_value group value
+has_text (op.AttrGet group number) = true
+has_text (op.VpGet v) = true
+has_text (op.VpSet v cppr ipb) = true

@@ -18,6 +18,7 @@ use Rattle.xv_model.specs.declared.outcomes.Presented.TheVariants.{Found, Backlo
 use Rattle.xv_model.specs.declared.outcomes.Outcome.{Outcome}
 use Rattle.xv_model.specs.declared.outcomes.Outcome.TheVariants as out
 use Rattle.account.specs.text.Numbers.{pair_text, hex}
+use Rattle.account.specs.text.Operations.{fields_text}
 
 -- a pair before and after
 abbrev pub pairs_text : ℕ → ℕ → List ℕ
@@ -101,7 +102,7 @@ escalated_text e (Some pass) = codes "escalate " ++ decimal e ++ codes " " ++ pa
 abbrev pub busy_text : ℕ → ℕ → List ℕ
 busy_text notices messages = codes "busy " ++ decimal notices ++ codes " " ++ decimal messages
 
--- an outcome; one of no operation that is built has no text
+-- an outcome
 abbrev pub outcome_text : Outcome → List ℕ
 outcome_text (out.Pq old new forward) = pairs_text old new ++ forward_text forward
 outcome_text out.Spent = codes "spent"
@@ -129,4 +130,5 @@ outcome_text (out.Value value) = codes "value " ++ hex value
 outcome_text out.Stored = codes "stored"
 outcome_text out.BadAccess = codes "bad-access"
 outcome_text (out.Code code) = codes "code " ++ signed_decimal code
-outcome_text _ = []
+outcome_text (out.Queue eq) = codes "queue " ++ fields_text eq
+outcome_text (out.Context cppr ipb) = codes "context " ++ hex cppr ++ codes " " ++ hex ipb

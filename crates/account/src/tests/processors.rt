@@ -1,7 +1,7 @@
 //! Takes, moves and accesses to the TIMA.
 
 ghost use Rattle.std.specs.Prelude.{IsTrue};
-ghost use Rattle.account.specs.text.Operations.{is_built};
+ghost use Rattle.account.specs.text.Operations.{has_text};
 ghost use Rattle.xv_model.specs.account.Outcomes.{IsWellFormed};
 
 use crate::tests::prints;
@@ -10,7 +10,7 @@ use xv_model::outcomes::{MoveRefused, Outcome, Phase, Presented};
 
 /// A load from the TIMA.
 fn load(t: u32, page: u8, offset: u16, size: u8) -> Op
-    ensures { IsTrue (is_built result) }
+    ensures { IsTrue (has_text result) }
 {
     Op::Tima {
         t,
@@ -23,7 +23,7 @@ fn load(t: u32, page: u8, offset: u16, size: u8) -> Op
 
 /// A store to the TIMA.
 fn store(t: u32, page: u8, offset: u16, size: u8, value: u64) -> Op
-    ensures { IsTrue (is_built result) }
+    ensures { IsTrue (has_text result) }
 {
     Op::Tima {
         t,
@@ -36,7 +36,7 @@ fn store(t: u32, page: u8, offset: u16, size: u8, value: u64) -> Op
 
 /// Whether an entry of actor 0 is printed so.
 fn says(index: u64, op: Op, outcome: Outcome, line: &[u8]) -> bool
-    requires op { IsTrue (is_built op) }
+    requires op { IsTrue (has_text op) }
     requires outcome { IsWellFormed outcome }
 {
     prints(index, 0, op, outcome, line)
