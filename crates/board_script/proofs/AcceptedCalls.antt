@@ -21,9 +21,10 @@ use Rattle.xv_model.specs.call.Arguments.{call_of}
 use Rattle.xv_model.specs.call.Checks.{code_of, checks, are_within, is_source}
 use Rattle.xv_model.specs.call.Hypercalls.{reply_with, call_reply, hcall_reply}
 use Rattle.xv_model.specs.source.Eas.{initialised}
-use Rattle.board_script.specs.declared.work.Then.{Then}
-use Rattle.board_script.specs.declared.work.Then.TheVariants.{Done, Route, Take, Sync, Drain, Esb, Reset}
-use Rattle.board_script.specs.Work.{first_from, resets, setting_off, op_after, next_op}
+use Rattle.board_script.specs.declared.steps.Then.{Then}
+use Rattle.board_script.specs.declared.steps.Then.TheVariants.{Done, Route, Take, Sync, Drain, Esb, Reset, Init}
+use Rattle.board_script.specs.Steps.{first_from, resets, setting_off, op_after}
+use Rattle.board_script.specs.Work.{with_then, next_op}
 use Rattle.board_script.specs.Calling.{then_called, calls, IsAccepted}
 use Rattle.board_script.specs.Accepted.{first_after, EachAcceptedGoesOn, EachRefusedEnds}
 
@@ -95,14 +96,14 @@ pub accepted_in : (z : Start) (h : List Entry) (number : ℕ) (args : List ℕ) 
 accepted_in z h number args c a = rw a.succeeds a.names
 
 -- the line of an accepted H_INT_SYNC brings its source to rest
-pub sync_called : (z : Start) (h : List Entry) (number : ℕ) (args : List ℕ) (c : SyncArgs) → IsAccepted z h number args (call.Sync c) → calls z.board number args ≡ record { first = op.Hcall number args; then = Sync c.lisn }
+pub sync_called : (z : Start) (h : List Entry) (number : ℕ) (args : List ℕ) (c : SyncArgs) → IsAccepted z h number args (call.Sync c) → calls z.board number args ≡ with_then (op.Hcall number args) (Sync c.lisn)
 sync_called z h number args c a =
     let source = sync_passes z h c (holds z h number args (call.Sync c) a) in
-    ap (λ m. record { first = op.Hcall number args; then = option_map_or (then_called z.board) m Done }) a.names ∙ rw source refl
+    ap (λ m. with_then (op.Hcall number args) (option_map_or (then_called z.board) m Done)) a.names ∙ rw source refl
 
 -- the line of H_INT_RESET resets each source
-pub reset_called : (z : Start) (h : List Entry) (number : ℕ) (args : List ℕ) (c : ResetArgs) → IsAccepted z h number args (call.Reset c) → calls z.board number args ≡ record { first = op.Hcall number args; then = Reset 0 z.board.limits.sources }
-reset_called z h number args c a = ap (λ m. record { first = op.Hcall number args; then = option_map_or (then_called z.board) m Done }) a.names
+pub reset_called : (z : Start) (h : List Entry) (number : ℕ) (args : List ℕ) (c : ResetArgs) → IsAccepted z h number args (call.Reset c) → calls z.board number args ≡ with_then (op.Hcall number args) (Reset 0 z.board.limits.sources)
+reset_called z h number args c a = ap (λ m. with_then (op.Hcall number args) (option_map_or (then_called z.board) m Done)) a.names
 
 -- no line goes on after a call that was refused
 ends_after : (t : Then) (z : Start) (h : List Entry) (reply : HReply) → is_success reply.code ≡ false → op_after t 0 z h (out.Reply reply) ≡ None
@@ -113,8 +114,9 @@ ends_after (Sync s) z h reply refused = rw refused refl
 ends_after (Drain from sources) z h reply refused = rw refused refl
 ends_after (Esb s page offset store) z h reply refused = rw refused refl
 ends_after (Reset from sources) z h reply refused = rw refused refl
+ends_after (Init s asserted) z h reply refused = rw refused refl
 
 pub each_refused_ends : EachRefusedEnds
 each_refused_ends z before x number args reply answer refused =
-    let t = (calls z.board number args).then in
+    let t = option_map_or (then_called z.board) (call_of number args) Done in
     ap (op_after t 0 z (x ∷ before)) answer ∙ ends_after t z (x ∷ before) reply refused

@@ -10,6 +10,11 @@ use Rattle.xv_model.specs.declared.board.Spans.{Spans}
 use Rattle.xv_model.specs.declared.hypercalls.Call.{Call}
 use Rattle.xv_model.specs.declared.hypercalls.Call.TheVariants as call
 use Rattle.xv_model.specs.declared.pages.TheConstants.{PAGE_SIZE}
+use Rattle.xv_model.specs.declared.kvm.Setting.{Setting}
+use Rattle.xv_model.specs.declared.kvm.Setting.TheVariants as setting
+use Rattle.xv_model.specs.declared.kvm.arguments.SourceArgs.{SourceArgs}
+use Rattle.xv_model.specs.declared.operations.AttrValue.TheVariants.{Number}
+use Rattle.xv_model.specs.device.Attributes.{setting_by}
 use Rattle.xv_model.specs.call.Arguments.{call_of}
 use Rattle.xv_model.specs.declared.tima.TheConstants.{CAM_VALID, CAM_FIRST}
 use Rattle.xv_model.specs.declared.operations.EndConfig.{EndConfig}
@@ -26,15 +31,17 @@ use Rattle.board_script.specs.declared.stage.Stage.TheVariants.{Header, Work, St
 use Rattle.board_script.specs.declared.lines.Said.{Said}
 use Rattle.board_script.specs.declared.lines.Said.TheVariants as said
 use Rattle.board_script.specs.declared.work.Work.{Work as AWork}
-use Rattle.board_script.specs.declared.work.Then.TheVariants.{Done, Sync}
-use Rattle.board_script.specs.Work.{once, then_route, WithThen, HasValidSteps}
+use Rattle.board_script.specs.declared.steps.Then.TheVariants.{Done, Sync}
+use Rattle.board_script.specs.Steps.{WithThen}
+use Rattle.board_script.specs.Work.{once, then_route, HasValidSteps}
+use Rattle.board_script.specs.Setting.{initialisation, then_set, sets}
 use Rattle.board_script.specs.Calling.{management_number, esb_access, then_called, calls}
 use Rattle.xv_model.specs.declared.hypercalls.TheConstants.{H_INT_RESET}
 use Rattle.xv_model.specs.declared.hypercalls.arguments.EsbArgs.{EsbArgs}
 use Rattle.board_script.specs.Words.{skip, says_nothing, word_of, rest_of, is_word}
 use Rattle.board_script.specs.Numbers.{number_of}
 use Rattle.board_script.specs.Grammar.{Grammar, Stop, some_at, read_at, refused_at, walk}
-use Rattle.board_script.specs.Operations.{notifying, escalation, Row, unbuilt_rows, move_rows, rare_rows, ring_rows, rows}
+use Rattle.board_script.specs.Operations.{notifying, escalation, Row, device_rows, move_rows, rare_rows, ring_rows, rows}
 use Rattle.board_script.specs.Working.{words_after, work_by, work_from, actor_in, actor_by, actor_line, work_of}
 use Rattle.board_script.specs.Header.{HeaderRow, has_room, range_words, row_of, header_rows, header_by, header_of}
 use Rattle.board_script.specs.Lines.{Reading, check_of, words_of, said_by, checked_of, said_of, IsNumber, IsRange, IsHeaderSaid, IsWorkSaid, IsWordsSaid, IsSaidAt}
@@ -96,14 +103,38 @@ called_says b number args None = refl
 calls_says : (b : Board) (number : ℕ) (args : List ℕ) → HasValidSteps b (calls b number args)
 calls_says b number args = called_says b number args (call_of number args)
 
-unbuilt_say : (b : Board) → RowsSay b (unbuilt_rows b)
-unbuilt_say b =
-    tt
-    & (λ g p attr q value r. tt)
-    & (λ attr p flags q shift r addr u toggle v index w. tt)
-    & (λ g p attr q. tt)
-    & (λ v p. tt)
-    & (λ v p cppr q ipb r. tt)
+-- and what a setting goes on with
+up_on_level : (level asserted : Bool) → (level || not (level && asserted)) ≡ true
+up_on_level true asserted = refl
+up_on_level false asserted = refl
+
+init_says : (b : Board) (c : SourceArgs) (group number value : ℕ) (known : Bool) → nat_lt c.source b.limits.sources ≡ known → WithThen b (op.AttrSet group number (Number value)) (if known then initialisation b c.source c.asserted else Done)
+init_says b c group number value true e = (refl, both_true e (up_on_level (is_level b c.source) c.asserted))
+init_says b c group number value false e = refl
+
+source_sync_says : (b : Board) (s group number value : ℕ) (known : Bool) → nat_lt s b.limits.sources ≡ known → WithThen b (op.AttrSet group number (Number value)) (if known then Sync s else Done)
+source_sync_says b s group number value true e = (tt, e)
+source_sync_says b s group number value false e = refl
+
+set_says : (b : Board) (group number value : ℕ) (m : Option Setting) → WithThen b (op.AttrSet group number (Number value)) (option_map_or (then_set b) m Done)
+set_says b group number value (Some setting.Reset) = (refl, omega arith)
+set_says b group number value (Some setting.EqSync) = (tt, omega arith)
+set_says b group number value (Some (setting.Source c)) = init_says b c group number value (nat_lt c.source b.limits.sources) refl
+set_says b group number value (Some (setting.SourceSync s)) = source_sync_says b s group number value (nat_lt s b.limits.sources) refl
+set_says b group number value (Some _) = refl
+set_says b group number value None = refl
+
+sets_says : (b : Board) (group number value : ℕ) → HasValidSteps b (sets b group number value)
+sets_says b group number value = set_says b group number value (setting_by group number (Number value))
+
+device_say : (b : Board) → RowsSay b (device_rows b)
+device_say b =
+    (λ group p number q value r. sets_says b group number value)
+    & (λ number p flags q shift r addr u toggle v index w. refl)
+    & (λ group p number q. refl)
+    & (λ v p. p.below)
+    & (λ v p cppr q ipb r. p.below)
+    & omega arith
     & tt
 
 moves_say : (b : Board) → IsBoard b → RowsSay b (move_rows b)
@@ -113,7 +144,7 @@ moves_say b is =
     & (λ v p. p.below)
     & (λ v p t q. both_true p.below q.below)
     & (λ v p. p.below)
-    & unbuilt_say b
+    & device_say b
 
 rare_say : (b : Board) → IsBoard b → RowsSay b (rare_rows b)
 rare_say b is =

@@ -3,7 +3,7 @@ use Rattle.std.proofs.Common.{ℕ, ◌≡◌, ◌≢◌, true, false, List, refl
 use Rattle.xv_model.specs.declared.entries.Entry.{Entry}
 use Rattle.xv_model.specs.account.Start.{Start}
 use Rattle.xv_model.specs.source.Eas.{initialised}
-use Rattle.board_script.specs.Work.{resets}
+use Rattle.board_script.specs.Steps.{resets}
 
 -- that of an initialised source
 pub some_to_reset : (z : Start) (h : List Entry) (s : ℕ) → initialised z h s ≡ true → resets z h s ≢ 0

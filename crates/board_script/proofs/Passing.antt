@@ -4,7 +4,7 @@ use Rattle.std.proofs.lemmas.Bool.{ltb-true}
 use Rattle.std.proofs.lemmas.Bool.Decides.{nat_tests}
 use Rattle.xv_model.specs.source.Notices.{sum_below}
 use Rattle.xv_model.proofs.Sums.{sum_below-same, sum_below-zero}
-use Rattle.board_script.specs.Work.{first_from, HasPassed}
+use Rattle.board_script.specs.Steps.{first_from, HasPassed}
 
 -- the first number from one on, below an end, at which a count isn't 0
 pub record IsFirst (count : ℕ → ℕ) (from end s : ℕ) : Type 0 where

@@ -5,6 +5,8 @@ use Rattle.std.proofs.lemmas.Bool.Decides.{nat_tests}
 use Rattle.std.specs.Option.{option_map_or}
 use Rattle.xv_model.specs.declared.hypercalls.arguments.ResetArgs.{ResetArgs}
 use Rattle.xv_model.specs.declared.hypercalls.Call.TheVariants as call
+use Rattle.xv_model.specs.declared.kvm.Setting.TheVariants as setting
+use Rattle.xv_model.specs.declared.operations.AttrValue.TheVariants.{Number}
 use Rattle.xv_model.specs.declared.eas.Eas.{Eas}
 use Rattle.xv_model.specs.declared.operations.PqOp.TheVariants.{Set}
 use Rattle.xv_model.specs.declared.operations.EndConfig.{EndConfig}
@@ -13,24 +15,28 @@ use Rattle.xv_model.specs.declared.operations.Op.TheVariants as op
 use Rattle.xv_model.specs.declared.entries.Entry.{Entry}
 use Rattle.xv_model.specs.account.Start.{Start, no_config}
 use Rattle.xv_model.specs.account.Legal.{IsLegal, IsNext, legal}
-use Rattle.xv_model.specs.source.Eas.{masked_off, eas_after, eas, initialised}
+use Rattle.xv_model.specs.source.Eas.{masked_off, eas_after, eas_after_setting, eas, initialised}
 use Rattle.xv_model.specs.source.Pairs.{Touch, pq}
-use Rattle.xv_model.specs.end.Descriptors.{configuration_by, config_at, config_by, end_config, until_config}
+use Rattle.xv_model.specs.end.Descriptors.{configuration_by, configuration_set, config_at, config_by, end_config, until_config}
 use Rattle.xv_model.specs.end.EventStates.{first_state}
 use Rattle.xv_model.specs.end.Reading.{taken}
 use Rattle.xv_model.specs.end.Written.{written}
 use Rattle.board_script.specs.declared.work.Work.{Work}
-use Rattle.board_script.specs.declared.work.Then.TheVariants.{Reset}
-use Rattle.board_script.specs.Work.{first_from, resets, setting_off, resetting, behind, reset_place, next_op, AreSteps, HasPassed}
+use Rattle.board_script.specs.declared.steps.Then.TheVariants.{Reset}
+use Rattle.board_script.specs.Steps.{first_from, resets, setting_off, resetting, behind, reset_place, HasPassed}
+use Rattle.board_script.specs.Work.{with_then, next_op, AreSteps}
 use Rattle.board_script.specs.Calling.{IsAccepted, calls}
-use Rattle.board_script.specs.Resting.{HasEnded, IsOff, IsKept, IsCleared, ResetsTurnOff, ResetsClearEnds, ResetsAreAccepted}
+use Rattle.board_script.specs.Setting.{IsSet, sets}
+use Rattle.board_script.specs.Resting.{HasEnded, IsTurnedOff, IsCleared, ResetsTurnOff, SettingsTurnOff, ResetsClearEnds, SettingsClearEnds, ResetsAreAccepted}
 use Rattle.board_script.proofs.AcceptedCalls.{accepted_in, reset_called}
+use Rattle.board_script.proofs.AcceptedSettings.{set_in, reset_set}
 use Rattle.board_script.proofs.Passing.{IsFirst, none_is}
-use Rattle.board_script.proofs.WorkLines.{are_steps, reset_is}
+use Rattle.board_script.proofs.StepLines.{reset_is}
+use Rattle.board_script.proofs.WorkLines.{are_steps}
 
--- the line of a call that resets so many sources
-abbrev line_of : ℕ → List ℕ → ℕ → Work
-line_of number args sources = record { first = op.Hcall number args; then = Reset 0 sources }
+-- a line that resets so many sources, by its first operation
+abbrev line_of : Op → ℕ → Work
+line_of first sources = with_then first (Reset 0 sources)
 
 -- an EAS after a reset
 abbrev reset_eas : Eas → Eas
@@ -56,24 +62,50 @@ same_initialised : (z : Start) (before h : List Entry) (place s : ℕ) → HasRe
 same_initialised z before h place s r = ap (λ (e : Eas). e.valid) r.masks ∙ still_valid (eas z before s)
 
 -- a legal entry is what its operation makes of it
-entry_is : (z : Start) (h : List Entry) (x : Entry) (o : Op) → x.op ≡ o → IsNext z h x → x ≡ record { actor = x.actor; op = o; outcome = legal z h o }
+pub entry_is : (z : Start) (h : List Entry) (x : Entry) (o : Op) → x.op ≡ o → IsNext z h x → x ≡ record { actor = x.actor; op = o; outcome = legal z h o }
 entry_is z h x o e n =
     ap (λ p. record { actor = x.actor; op = p; outcome = x.outcome }) e ∙ ap (λ u. record { actor = x.actor; op = o; outcome = u }) (n.outcome ∙ ap (legal z h) e)
+
+-- a call, once it is answered
+abbrev answered : Start → List Entry → Op → ℕ → Entry
+answered z before first actor = record { actor = actor; op = first; outcome = legal z before first }
+
+-- a call after an account resets: the sources that are initialised are masked off, and all ENDs reset; it is accepted
+record ResetsAll (z : Start) (before : List Entry) (first : Op) : Type 0 where
+  masks : (actor s : ℕ) → eas z (answered z before first actor ∷ before) s ≡ reset_eas (eas z before s)
+  keeps : (actor s : ℕ) → pq z (answered z before first actor ∷ before) s ≡ pq z before s
+  clears : (actor e : ℕ) → config_by e (answered z before first actor) ≡ Some no_config
+  goes : (m : Option Op) → resetting m (legal z before first) ≡ m
+
+-- H_INT_RESET does
+call_resets : (z : Start) (before : List Entry) (number : ℕ) (args : List ℕ) (c : ResetArgs) → IsAccepted z before number args (call.Reset c) → ResetsAll z before (op.Hcall number args)
+call_resets z before number args c a = record {
+  masks = λ actor s. let was = eas z before s in ap (λ m. option_map_or (λ k. eas_after k s was) m was) (accepted_in z before number args (call.Reset c) a);
+  keeps = λ actor s. refl;
+  clears = λ actor e. ap (λ m. config_at e (option_and_then configuration_by m)) (accepted_in z before number args (call.Reset c) a);
+  goes = λ m. ap (λ b. if b then m else None) a.succeeds;
+}
+
+-- and so does KVM_DEV_XIVE_RESET
+setting_resets : (z : Start) (before : List Entry) (group number value : ℕ) → IsSet z before group number value setting.Reset → ResetsAll z before (op.AttrSet group number (Number value))
+setting_resets z before group number value a = record {
+  masks = λ actor s. let was = eas z before s in ap (λ m. option_map_or (λ k. eas_after_setting k s was) m was) (set_in z before group number value setting.Reset a);
+  keeps = λ actor s. refl;
+  clears = λ actor e. ap (λ m. config_at e (option_and_then configuration_set m)) (set_in z before group number value setting.Reset a);
+  goes = λ m. ap (λ b. if b then m else None) a.succeeds;
+}
 
 no_less : (s : ℕ) → s < 0 → ⊥
 no_less s l = omega (arith, l)
 
 -- after the call
-first_reset : (z : Start) (before : List Entry) (number s : ℕ) (args : List ℕ) (c : ResetArgs) (x : Entry) → IsAccepted z before number args (call.Reset c) → x.op ≡ op.Hcall number args → IsNext z before x → HasReset z before 0 (x ∷ before) s
-first_reset z before number s args c x a e n =
-    let was = eas z before s in
-    subst (λ y. HasReset z before 0 (y ∷ before) s) (sym (entry_is z before x (op.Hcall number args) e n))
-    (record {
-      masks = ap (λ m. option_map_or (λ k. eas_after k s was) m was) (accepted_in z before number args (call.Reset c) a);
-      sets = λ l is. absurd (no_less s l);
-      later = λ l. refl;
-      others = λ is. refl;
-    })
+first_reset : (z : Start) (before : List Entry) (first : Op) (s : ℕ) (x : Entry) → ResetsAll z before first → x.op ≡ first → IsNext z before x → HasReset z before 0 (x ∷ before) s
+first_reset z before first s x a e n = subst (λ y. HasReset z before 0 (y ∷ before) s) (sym (entry_is z before x first e n)) (record {
+  masks = a.masks x.actor s;
+  sets = λ l is. absurd (no_less s l);
+  later = λ l. a.keeps x.actor s;
+  others = λ is. a.keeps x.actor s;
+})
 
 -- the pair of a source after one is set
 set_pair : (z : Start) (h : List Entry) (x : Entry) (t s : ℕ) → x.op ≡ op.Pq t (Set 1) → IsNext z h x → pq z (x ∷ h) s ≡ (if t == s then 1 else pq z h s)
@@ -90,15 +122,15 @@ set_eas : (z : Start) (h : List Entry) (x : Entry) (t s : ℕ) → x.op ≡ op.P
 set_eas z h x t s e n = subst (λ y. eas z (y ∷ h) s ≡ eas z h s) (sym (entry_is z h x (op.Pq t (Set 1)) e n)) refl
 
 -- a source that a reset finds is initialised, and one that it passes isn't
-found_initialised : (b : Bool) → ((if b then 1 else 0) == 0) ≡ false → b ≡ true
+pub found_initialised : (b : Bool) → ((if b then 1 else 0) == 0) ≡ false → b ≡ true
 found_initialised true e = refl
 found_initialised false e = cc
 
-passed_uninitialised : (b : Bool) → ◌≡◌ {A = ℕ} (if b then 1 else 0) 0 → b ≡ false
+pub passed_uninitialised : (b : Bool) → ◌≡◌ {A = ℕ} (if b then 1 else 0) 0 → b ≡ false
 passed_uninitialised true e = cc
 passed_uninitialised false e = refl
 
-both_ways : (b : Bool) → b ≡ true → b ≡ false → ⊥
+pub both_ways : (b : Bool) → b ≡ true → b ≡ false → ⊥
 both_ways true e f = cc
 both_ways false e f = cc
 
@@ -143,22 +175,22 @@ next_reset z before h place n t s x r e is first = by (t == s) refl
     }
 
 -- after each entry of the line
-resets_at : (z : Start) (before part : List Entry) (number s : ℕ) (args : List ℕ) (c : ResetArgs) (x : Entry) → IsAccepted z before number args (call.Reset c) → AreSteps (line_of number args z.board.limits.sources) z before (x ∷ part) → IsLegal z (x ∷ (part ++ before)) →
+resets_at : (z : Start) (before part : List Entry) (first : Op) (s : ℕ) (x : Entry) → ResetsAll z before first → AreSteps (line_of first z.board.limits.sources) z before (x ∷ part) → IsLegal z (x ∷ (part ++ before)) →
     HasReset z before (reset_place (x ∷ part)) (x ∷ (part ++ before)) s
-resets_at z before [] number s args c x a steps l = let here : op.Hcall number args ≡ x.op = cc in first_reset z before number s args c x a (sym here) l.1
-resets_at z before (y ∷ part) number s args c x a steps l =
+resets_at z before [] first s x a steps l = let here : first ≡ x.op = cc in first_reset z before first s x a (sym here) l.1
+resets_at z before (y ∷ part) first s x a steps l =
     let h = y ∷ (part ++ before) in
     let r = reset_is (resets z h) (reset_place (y ∷ part)) z.board.limits.sources y.outcome x.op steps.1 in
     let place : behind x.op ≡ suc r.0 = ap behind r.1 in
-    subst (λ k. HasReset z before k (x ∷ h) s) (sym place) (next_reset z before h (reset_place (y ∷ part)) z.board.limits.sources r.0 s x (resets_at z before part number s args c y a steps.0 l.0) r.1 l.1 r.2)
+    subst (λ k. HasReset z before k (x ∷ h) s) (sym place) (next_reset z before h (reset_place (y ∷ part)) z.board.limits.sources r.0 s x (resets_at z before part first s y a steps.0 l.0) r.1 l.1 r.2)
 
 -- the line goes on after each of its entries
-goes_on : (z : Start) (before part : List Entry) (number : ℕ) (args : List ℕ) (c : ResetArgs) (x : Entry) (m : Option Op) → IsAccepted z before number args (call.Reset c) → AreSteps (line_of number args z.board.limits.sources) z before (x ∷ part) → IsLegal z (x ∷ (part ++ before)) →
+goes_on : (z : Start) (before part : List Entry) (first : Op) (x : Entry) (m : Option Op) → ResetsAll z before first → AreSteps (line_of first z.board.limits.sources) z before (x ∷ part) → IsLegal z (x ∷ (part ++ before)) →
     resetting m x.outcome ≡ m
-goes_on z before [] number args c x m a steps l =
-    let here : op.Hcall number args ≡ x.op = cc in
-    subst (λ y. resetting m y.outcome ≡ m) (sym (entry_is z before x (op.Hcall number args) (sym here) l.1)) (ap (λ b. if b then m else None) a.succeeds)
-goes_on z before (y ∷ part) number args c x m a steps l =
+goes_on z before [] first x m a steps l =
+    let here : first ≡ x.op = cc in
+    subst (λ y. resetting m y.outcome ≡ m) (sym (entry_is z before x first (sym here) l.1)) (a.goes m)
+goes_on z before (y ∷ part) first x m a steps l =
     let h = y ∷ (part ++ before) in
     let r = reset_is (resets z h) (reset_place (y ∷ part)) z.board.limits.sources y.outcome x.op steps.1 in
     subst (λ y. resetting m y.outcome ≡ m) (sym (entry_is z h x (op.Pq r.0 (Set 1)) r.1 l.1)) refl
@@ -178,31 +210,40 @@ ended_off z before part x s r passed below on =
           (passed_uninitialised (initialised z h s) (passed.none s from (omega (arith, below, from)))))
     ]
 
-resets_leave : (z : Start) (before part : List Entry) (number s : ℕ) (args : List ℕ) (c : ResetArgs) → IsAccepted z before number args (call.Reset c) → AreSteps (line_of number args z.board.limits.sources) z before part → next_op (line_of number args z.board.limits.sources) z before part ≡ None →
-    IsLegal z (part ++ before) → s < z.board.limits.sources → (initialised z before s ≡ true → IsOff z (part ++ before) s) × (initialised z before s ≡ false → IsKept z before (part ++ before) s)
-resets_leave z before [] number s args c a steps none l below = cc
-resets_leave z before (x ∷ part) number s args c a steps none l below =
+resets_leave : (z : Start) (before part : List Entry) (first : Op) (s : ℕ) → ResetsAll z before first → AreSteps (line_of first z.board.limits.sources) z before part → next_op (line_of first z.board.limits.sources) z before part ≡ None →
+    IsLegal z (part ++ before) → s < z.board.limits.sources → IsTurnedOff z before (part ++ before) s
+resets_leave z before [] first s a steps none l below = cc
+resets_leave z before (x ∷ part) first s a steps none l below =
     let h = x ∷ (part ++ before) in
     let place = reset_place (x ∷ part) in
     let n = z.board.limits.sources in
-    let r = resets_at z before part number s args c x a steps l in
-    let first = first_from (resets z h) place (n - place) in
-    let passed = none_is (resets z h) place (n - place) (none_first first (sym (goes_on z before part number args c x (setting_off first) a steps l) ∙ none)) in (
+    let r = resets_at z before part first s x a steps l in
+    let next = first_from (resets z h) place (n - place) in
+    let passed = none_is (resets z h) place (n - place) (none_first next (sym (goes_on z before part first x (setting_off next) a steps l) ∙ none)) in (
       λ on. record { masked = r.masks ∙ ap (λ v. if v then masked_off else eas z before s) on; pair = ended_off z before part x s r passed below on },
       λ off. record { same_eas = r.masks ∙ ap (λ v. if v then masked_off else eas z before s) off; same_pair = r.others off },
     )
 
--- the entries of a line that has ended, whose call resets
-ended_reset : (z : Start) (actor number : ℕ) (args : List ℕ) (c : ResetArgs) (before part : List Entry) → IsAccepted z before number args (call.Reset c) → HasEnded z actor (calls z.board number args) before part → HasEnded z actor (line_of number args z.board.limits.sources) before part
-ended_reset z actor number args c before part a ended = subst (λ w. HasEnded z actor w before part) (reset_called z before number args c a) ended
+steps_of : (z : Start) (actor : ℕ) (first : Op) (before part : List Entry) → HasEnded z actor (line_of first z.board.limits.sources) before part → AreSteps (line_of first z.board.limits.sources) z before part
+steps_of z actor first before part ended = are_steps z (record { actor = actor; work = line_of first z.board.limits.sources }) before part ended.part_is.begins
 
-steps_of : (z : Start) (actor number : ℕ) (args : List ℕ) (before part : List Entry) → HasEnded z actor (line_of number args z.board.limits.sources) before part → AreSteps (line_of number args z.board.limits.sources) z before part
-steps_of z actor number args before part ended = are_steps z (record { actor = actor; work = line_of number args z.board.limits.sources }) before part ended.part_is.begins
+turned_off : (z : Start) (actor : ℕ) (first : Op) (s : ℕ) (before part : List Entry) → ResetsAll z before first → HasEnded z actor (line_of first z.board.limits.sources) before part → s < z.board.limits.sources → IsTurnedOff z before (part ++ before) s
+turned_off z actor first s before part a ended below = resets_leave z before part first s a (steps_of z actor first before part ended) ended.part_is.ends ended.legal below
+
+-- the entries of a line that has ended, whose call resets
+ended_call : (z : Start) (actor number : ℕ) (args : List ℕ) (c : ResetArgs) (before part : List Entry) → IsAccepted z before number args (call.Reset c) → HasEnded z actor (calls z.board number args) before part → HasEnded z actor (line_of (op.Hcall number args) z.board.limits.sources) before part
+ended_call z actor number args c before part a ended = subst (λ w. HasEnded z actor w before part) (reset_called z before number args c a) ended
+
+ended_setting : (z : Start) (actor group number value : ℕ) (before part : List Entry) → IsSet z before group number value setting.Reset → HasEnded z actor (sets z.board group number value) before part → HasEnded z actor (line_of (op.AttrSet group number (Number value)) z.board.limits.sources) before part
+ended_setting z actor group number value before part a ended = subst (λ w. HasEnded z actor w before part) (reset_set z before group number value a) ended
 
 pub resets_turn_off : ResetsTurnOff
 resets_turn_off z actor number s args c before part a ended below =
-    let e = ended_reset z actor number args c before part a ended in
-    resets_leave z before part number s args c a (steps_of z actor number args before part e) e.part_is.ends e.legal below
+    turned_off z actor (op.Hcall number args) s before part (call_resets z before number args c a) (ended_call z actor number args c before part a ended) below
+
+pub settings_turn_off : SettingsTurnOff
+settings_turn_off z actor group number value s before part a ended below =
+    turned_off z actor (op.AttrSet group number (Number value)) s before part (setting_resets z before group number value a) (ended_setting z actor group number value before part a ended) below
 
 -- ---- the ENDs
 
@@ -214,20 +255,14 @@ count_told : (m : Option EndConfig) (before : List ℕ) (n : ℕ) → m ≡ Some
 count_told m before n e = rw e refl
 
 -- after the call
-first_cleared : (z : Start) (before : List Entry) (number e : ℕ) (args : List ℕ) (c : ResetArgs) (x : Entry) → IsAccepted z before number args (call.Reset c) → x.op ≡ op.Hcall number args → IsNext z before x → IsCleared z (x ∷ before) e
-first_cleared z before number e args c x a is n = subst (λ y. IsCleared z (y ∷ before) e) (sym (entry_is z before x (op.Hcall number args) is n)) (record {
-  config = ap (λ m. option_map_or (λ k. k) m (end_config z before e)) told;
-  notifications_off = state_told (config_by e y) _ told;
-  escalations_off = state_told (config_by e y) _ told;
-  none_written = count_told (config_by e y) _ _ told;
-  none_taken = count_told (config_by e y) _ _ told;
+first_cleared : (z : Start) (before : List Entry) (first : Op) (e : ℕ) (x : Entry) → ResetsAll z before first → x.op ≡ first → IsNext z before x → IsCleared z (x ∷ before) e
+first_cleared z before first e x a is n = subst (λ y. IsCleared z (y ∷ before) e) (sym (entry_is z before x first is n)) (record {
+  config = ap (λ m. option_map_or (λ k. k) m (end_config z before e)) (a.clears x.actor e);
+  notifications_off = state_told (config_by e (answered z before first x.actor)) _ (a.clears x.actor e);
+  escalations_off = state_told (config_by e (answered z before first x.actor)) _ (a.clears x.actor e);
+  none_written = count_told (config_by e (answered z before first x.actor)) _ _ (a.clears x.actor e);
+  none_taken = count_told (config_by e (answered z before first x.actor)) _ _ (a.clears x.actor e);
 })
-  where
-    y : Entry
-    y = record { actor = x.actor; op = op.Hcall number args; outcome = legal z before (op.Hcall number args) }
-
-    told : config_by e y ≡ Some no_config
-    told = ap (λ m. config_at e (option_and_then configuration_by m)) (accepted_in z before number args (call.Reset c) a)
 
 -- and after each pair that is set
 next_cleared : (z : Start) (h : List Entry) (x : Entry) (t e : ℕ) → x.op ≡ op.Pq t (Set 1) → IsCleared z h e → IsCleared z (x ∷ h) e
@@ -239,23 +274,29 @@ next_cleared z h x t e is r = subst (λ y. IsCleared z (y ∷ h) e) (sym (ap (λ
   none_taken = ap (λ items. length items + until_config (z.taken_count e) h e) (append-nil (taken h e)) ∙ r.none_taken;
 })
 
-clears_at : (z : Start) (before part : List Entry) (number e : ℕ) (args : List ℕ) (c : ResetArgs) (x : Entry) → IsAccepted z before number args (call.Reset c) → AreSteps (line_of number args z.board.limits.sources) z before (x ∷ part) → IsLegal z (x ∷ (part ++ before)) →
+clears_at : (z : Start) (before part : List Entry) (first : Op) (e : ℕ) (x : Entry) → ResetsAll z before first → AreSteps (line_of first z.board.limits.sources) z before (x ∷ part) → IsLegal z (x ∷ (part ++ before)) →
     IsCleared z (x ∷ (part ++ before)) e
-clears_at z before [] number e args c x a steps l = let here : op.Hcall number args ≡ x.op = cc in first_cleared z before number e args c x a (sym here) l.1
-clears_at z before (y ∷ part) number e args c x a steps l =
+clears_at z before [] first e x a steps l = let here : first ≡ x.op = cc in first_cleared z before first e x a (sym here) l.1
+clears_at z before (y ∷ part) first e x a steps l =
     let h = y ∷ (part ++ before) in
     let r = reset_is (resets z h) (reset_place (y ∷ part)) z.board.limits.sources y.outcome x.op steps.1 in
-    next_cleared z h x r.0 e r.1 (clears_at z before part number e args c y a steps.0 l.0)
+    next_cleared z h x r.0 e r.1 (clears_at z before part first e y a steps.0 l.0)
 
-clears_leave : (z : Start) (before part : List Entry) (number e : ℕ) (args : List ℕ) (c : ResetArgs) → IsAccepted z before number args (call.Reset c) → AreSteps (line_of number args z.board.limits.sources) z before part → next_op (line_of number args z.board.limits.sources) z before part ≡ None →
+clears_leave : (z : Start) (before part : List Entry) (first : Op) (e : ℕ) → ResetsAll z before first → AreSteps (line_of first z.board.limits.sources) z before part → next_op (line_of first z.board.limits.sources) z before part ≡ None →
     IsLegal z (part ++ before) → IsCleared z (part ++ before) e
-clears_leave z before [] number e args c a steps none l = cc
-clears_leave z before (x ∷ part) number e args c a steps none l = clears_at z before part number e args c x a steps l
+clears_leave z before [] first e a steps none l = cc
+clears_leave z before (x ∷ part) first e a steps none l = clears_at z before part first e x a steps l
+
+cleared : (z : Start) (actor : ℕ) (first : Op) (e : ℕ) (before part : List Entry) → ResetsAll z before first → HasEnded z actor (line_of first z.board.limits.sources) before part → IsCleared z (part ++ before) e
+cleared z actor first e before part a ended = clears_leave z before part first e a (steps_of z actor first before part ended) ended.part_is.ends ended.legal
 
 pub resets_clear_ends : ResetsClearEnds
 resets_clear_ends z actor number e args c before part a ended =
-    let done = ended_reset z actor number args c before part a ended in
-    clears_leave z before part number e args c a (steps_of z actor number args before part done) done.part_is.ends done.legal
+    cleared z actor (op.Hcall number args) e before part (call_resets z before number args c a) (ended_call z actor number args c before part a ended)
+
+pub settings_clear_ends : SettingsClearEnds
+settings_clear_ends z actor group number value e before part a ended =
+    cleared z actor (op.AttrSet group number (Number value)) e before part (setting_resets z before group number value a) (ended_setting z actor group number value before part a ended)
 
 -- a line that resets makes a call that is accepted
 pub resets_are_accepted : ResetsAreAccepted

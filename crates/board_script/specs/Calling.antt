@@ -17,8 +17,9 @@ use Rattle.xv_model.specs.call.Arguments.{call_of}
 use Rattle.xv_model.specs.call.Hypercalls.{hcall_reply}
 use Rattle.xv_model.specs.end.Flags.{has_bit}
 use Rattle.board_script.specs.declared.work.Work.{Work}
-use Rattle.board_script.specs.declared.work.Then.{Then}
-use Rattle.board_script.specs.declared.work.Then.TheVariants.{Done, Sync, Esb, Reset}
+use Rattle.board_script.specs.declared.steps.Then.{Then}
+use Rattle.board_script.specs.declared.steps.Then.TheVariants.{Done, Sync, Esb, Reset}
+use Rattle.board_script.specs.Work.{with_then}
 
 -- the management page of a source is its last one
 abbrev pub management_number : Board → ℕ
@@ -38,7 +39,7 @@ then_called b _ = Done
 
 -- the line of a hypercall
 abbrev pub calls : Board → ℕ → List ℕ → Work
-calls b number args = record { first = op.Hcall number args; then = option_map_or (then_called b) (call_of number args) Done }
+calls b number args = with_then (op.Hcall number args) (option_map_or (then_called b) (call_of number args) Done)
 
 -- a number and its arguments name a call that is accepted after an account
 pub record IsAccepted (z : Start) (h : List Entry) (number : ℕ) (args : List ℕ) (c : Call) : Type 0 where

@@ -1,7 +1,7 @@
 -- Why and where a line is refused.
 use Rattle.std.specs.Prelude.{ℕ, ◌+◌, ◌-◌, List, length, codes}
 use Rattle.board_script.specs.declared.faults.Cause.{Cause}
-use Rattle.board_script.specs.declared.faults.Cause.TheVariants.{LongLine, BadByte, WrongPlace, UnknownWord, MissingWord, ExtraWord, BadNumber, OutOfRange, NotLevel, BadEnd, NoGo, NotInLive, TooManyLines, TooManyForwards, NotBuilt}
+use Rattle.board_script.specs.declared.faults.Cause.TheVariants.{LongLine, BadByte, WrongPlace, UnknownWord, MissingWord, ExtraWord, BadNumber, OutOfRange, NotLevel, BadEnd, NoGo, NotInLive, TooManyLines, TooManyForwards}
 use Rattle.board_script.specs.declared.faults.Misread.{Misread}
 use Rattle.board_script.specs.declared.faults.ScriptFault.{ScriptFault}
 
@@ -21,7 +21,6 @@ cause_text NoGo = codes "no-go"
 cause_text NotInLive = codes "not-in-live"
 cause_text TooManyLines = codes "too-many-lines"
 cause_text TooManyForwards = codes "too-many-forwards"
-cause_text NotBuilt = codes "not-built"
 
 -- the byte, from 1, at which a line is refused
 abbrev pub place : List ℕ → Misread → ℕ

@@ -6,8 +6,11 @@ pub mod Numbers
 pub mod Flags
 pub mod Grammar
 pub mod FirstWords
+pub mod Steps
+pub mod Migrating
 pub mod Work
 pub mod Calling
+pub mod Setting
 pub mod Operations
 pub mod Working
 pub mod Header
@@ -17,3 +20,4 @@ pub mod Parser
 pub mod Script
 pub mod Resting
 pub mod Accepted
+pub mod Migrations

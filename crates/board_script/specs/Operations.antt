@@ -4,6 +4,7 @@ use Rattle.std.specs.declared.result.Result.{Result}
 use Rattle.xv_model.specs.declared.board.Board.{Board}
 use Rattle.xv_model.specs.declared.operations.Access.TheVariants.{Load, Store}
 use Rattle.xv_model.specs.declared.operations.EndConfig.{EndConfig}
+use Rattle.xv_model.specs.declared.operations.EqFields.{EqFields}
 use Rattle.xv_model.specs.declared.operations.Op.{Op}
 use Rattle.xv_model.specs.declared.operations.Op.TheVariants as op
 use Rattle.xv_model.specs.declared.operations.PqOp.TheVariants.{Trigger, Eoi, Get, Set, Raise, Lower, Init}
@@ -13,10 +14,11 @@ use Rattle.xv_model.specs.account.Start.{no_config}
 use Rattle.xv_model.specs.board.Boards.{is_level, source_pages}
 use Rattle.xv_model.specs.board.Validity.{end_count, valid}
 use Rattle.board_script.specs.declared.faults.Cause.{Cause}
-use Rattle.board_script.specs.declared.faults.Cause.TheVariants.{NotLevel, BadEnd, NotBuilt}
+use Rattle.board_script.specs.declared.faults.Cause.TheVariants.{NotLevel, BadEnd}
 use Rattle.board_script.specs.declared.work.Work.{Work}
-use Rattle.board_script.specs.Work.{once, then_route, settle, sync, drain}
+use Rattle.board_script.specs.Work.{once, then_route, settle, sync, drain, migrate}
 use Rattle.board_script.specs.Calling.{calls, reset}
+use Rattle.board_script.specs.Setting.{sets, sets_queue}
 use Rattle.board_script.specs.Flags.{of_bits}
 use Rattle.board_script.specs.Grammar.{Form, Number, AnyNumber, Size, Pair, Flags, Grammar, Stop, Word}
 
@@ -113,6 +115,21 @@ last_args board number a b =
 abbrev pub hypercall : Board → Grammar Work
 hypercall board = Word AnyNumber (λ number. Word AnyNumber (λ a. Word AnyNumber (λ b. last_args board number a b)))
 
+-- the group of an attribute, the attribute, and what it is set to
+abbrev pub attribute : Board → Grammar Work
+attribute b = Word word32 (λ group. two AnyNumber AnyNumber (λ number value. Ok (sets b group number value)))
+
+-- the identifier of an event queue, its flags, its size and its address, and the toggle and the index of its next entry
+abbrev pub next_entry : ℕ → EqFields → Grammar Work
+next_entry number eq = two word32 word32 (λ toggle index. Ok (sets_queue number (record eq { qtoggle = toggle; qindex = index })))
+
+abbrev pub event_queue : Grammar Work
+event_queue = Word AnyNumber (λ number. Word word32 (λ flags. Word word32 (λ shift. Word AnyNumber (λ addr. next_entry number (record { flags = flags; qshift = shift; qaddr = addr; qtoggle = 0; qindex = 0 })))))
+
+-- a processor, its CPPR and its IPB
+abbrev pub processor_state : Board → Grammar Work
+processor_state b = Word (processor b) (λ v. two byte byte (λ cppr ipb. does (op.VpSet v cppr ipb)))
+
 -- the CAM word of a processor, with its valid bit
 abbrev pub cam_store : ℕ → ℕ → Op
 cam_store t v = op.Tima t TM_HV_PAGE TM_OS_CAM 4 (Store (CAM_VALID + CAM_FIRST + v))
@@ -126,15 +143,15 @@ pub record Row : Type 0 where
 abbrev pub row : List ℕ → Grammar Work → Row
 row name words = record { name = name; words = words }
 
--- lines that the grammar has, and that aren't built yet
-abbrev pub unbuilt_rows : Board → List Row
-unbuilt_rows b =
-    row (codes "migrate") (Stop (Err NotBuilt))
-    ∷ row (codes "kvmset") (Word word32 (λ g. two AnyNumber AnyNumber (λ attr value. Err NotBuilt)))
-    ∷ row (codes "kvmeq") (Word AnyNumber (λ attr. Word word32 (λ flags. Word word32 (λ shift. Word AnyNumber (λ addr. two word32 word32 (λ toggle index. Err NotBuilt))))))
-    ∷ row (codes "kvmget") (two word32 AnyNumber (λ g attr. Err NotBuilt))
-    ∷ row (codes "vpget") (one (processor b) (λ v. Err NotBuilt))
-    ∷ row (codes "vpset") (Word (processor b) (λ v. two byte byte (λ cppr ipb. Err NotBuilt)))
+-- lines of the KVM device, and the one of a migration
+abbrev pub device_rows : Board → List Row
+device_rows b =
+    row (codes "kvmset") (attribute b)
+    ∷ row (codes "kvmeq") event_queue
+    ∷ row (codes "kvmget") (two word32 AnyNumber (λ group number. does (op.AttrGet group number)))
+    ∷ row (codes "vpget") (one (processor b) (λ v. does (op.VpGet v)))
+    ∷ row (codes "vpset") (processor_state b)
+    ∷ row (codes "migrate") (nothing (migrate b.limits.sources))
     ∷ []
 
 -- lines that move the context of a processor
@@ -145,7 +162,7 @@ move_rows b =
     ∷ row (codes "connect") (one (processor b) (λ v. does (op.Connect v)))
     ∷ row (codes "restore") (two (processor b) (thread b) (λ v t. does (op.Restore v t)))
     ∷ row (codes "save") (one (processor b) (λ v. does (op.Save v)))
-    ∷ unbuilt_rows b
+    ∷ device_rows b
 
 -- lines that come less often
 abbrev pub rare_rows : Board → List Row

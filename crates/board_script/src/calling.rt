@@ -7,8 +7,9 @@ ghost use Rattle.board_script.specs.Calling.{calls, esb_access, management_numbe
 ghost use Rattle.board_script.specs.Operations.{hypercall, last_args as last_words, nothing};
 
 use crate::faults::Misread;
+use crate::steps::Then;
 use crate::words::Words;
-use crate::work::{Then, Work};
+use crate::work::Work;
 use xv_model::board::Board;
 use xv_model::hypercalls::arguments::EsbArgs;
 use xv_model::hypercalls::flags::ESB_STORE;
@@ -51,10 +52,7 @@ fn call(board: &Board, number: u64, args: [u64; 5]) -> Work
         Some(call) => then_call(board, &call),
         None => Then::Done,
     };
-    Work {
-        first: Op::Hcall { number, args },
-        then,
-    }
+    Work::with_then(Op::Hcall { number, args }, then)
 }
 
 /// A call, by its number, its first two arguments and what stands after them.

@@ -35,8 +35,6 @@ pub enum Cause {
     TooManyLines,
     /// A live script has too many forwards.
     TooManyForwards,
-    /// The line is in the language, and what it asks for isn't built yet.
-    NotBuilt,
 }
 
 impl Cause {
@@ -60,7 +58,6 @@ impl Cause {
             Cause::NotInLive => b"not-in-live",
             Cause::TooManyLines => b"too-many-lines",
             Cause::TooManyForwards => b"too-many-forwards",
-            Cause::NotBuilt => b"not-built",
         }
     }
 }

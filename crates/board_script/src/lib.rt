@@ -1,6 +1,7 @@
 //! Board scripts: what each line of one says. Nothing here runs a board.
 #![tactic(auto)]
 
+mod attributes;
 mod calling;
 mod configuring;
 mod ends;
@@ -11,6 +12,7 @@ mod header;
 pub mod laws;
 pub mod lines;
 mod memory;
+pub mod migrating;
 mod numbers;
 mod pages;
 pub mod parser;
@@ -18,9 +20,9 @@ mod processors;
 mod resetting;
 mod sources;
 pub mod stage;
+pub mod steps;
 #[cfg(test)]
 mod tests;
-mod unbuilt;
 mod words;
 pub mod work;
 mod working;

@@ -5,15 +5,15 @@ ghost use Rattle.xv_model.specs.declared.board.Board.{Board};
 ghost use Rattle.xv_model.specs.declared.entries.Entry.{Entry};
 ghost use Rattle.xv_model.specs.account.Start.{Start};
 ghost use Rattle.xv_model.specs.board.Validity.{valid};
-ghost use Rattle.board_script.specs.Work.{first_from, resets, setting_off, resetting, behind};
+ghost use Rattle.board_script.specs.Steps.{first_from, resets, setting_off, resetting, behind};
 
-use crate::work::succeeded;
+use crate::steps::succeeded;
 use xv_model::known::Known;
 use xv_model::operations::{Op, PqOp};
 use xv_model::outcomes::Outcome;
 
 /// The first source from this one on, of so many, that is initialised.
-fn first_initialised<N: Known>(known: &N, from: u32, sources: u32) -> Option<u32>
+pub fn first_initialised<N: Known>(known: &N, from: u32, sources: u32) -> Option<u32>
     requires { sources ≤ N.sources known.now }
     ensures value { (z : Start) (h : List Entry) → N.knows known.now z h →
         result ≡ first_from (resets z h) from (sources - from) }
@@ -44,10 +44,10 @@ pub fn reset_next<N: Known>(
         sources ≤ b.limits.sources → IsTrue (valid b o)) }
     ensures moves { IfSome result (λ o. from.new ≡ behind o) }
 {
-    if let Outcome::Reply { reply } = outcome
-        && !succeeded(reply.code)
-    {
-        return None;
+    match outcome {
+        Outcome::Reply { reply } if !succeeded(reply.code) => return None,
+        Outcome::Code { code } if !succeeded(*code as i64) => return None,
+        _ => {}
     }
     let s = first_initialised(known, *from, sources)?;
     *from = s + 1;

@@ -1,9 +1,11 @@
 //! Scripts, spellings and refusals, by what the lines are about.
 
+mod attributes;
 mod calls;
 mod causes;
 mod configuring;
 mod memory;
+mod migrating;
 mod pages;
 mod processors;
 mod ranges;
@@ -17,9 +19,11 @@ ghost use Rattle.xv_model.specs.board.Boards.{IsBoard};
 
 use crate::faults::ScriptFault;
 use crate::lines::{Line, Said, read};
+use crate::migrating::Migration;
 use crate::parser::Parser;
 use crate::stage::Stage;
-use crate::work::{Then, Work};
+use crate::steps::Then;
+use crate::work::Work;
 use std::process::Abort;
 use xv_model::board::Board;
 use xv_model::known::Known;
@@ -27,7 +31,8 @@ use xv_model::operations::Op;
 use xv_model::outcomes::Outcome;
 
 /// Knows of the sources of the largest board, of no account: one notice of this source is outstanding, and no
-/// other one; and the sources 2, 7 and 8191 are initialised.
+/// other one; the sources 2, 7 and 8191 are initialised; and the pair of source 7 was 11 before it was set last, that of
+/// each other one 10.
 #[derive(Clone, Copy)]
 pub struct Blind {
     pub busy: u32,
@@ -46,27 +51,34 @@ impl Known for Blind {
         s == 2 || s == 7 || s == 8191
     }
 
-    fn pq(&self, _s: u32) -> u8 {
-        0
+    fn old_pair(&self, s: u32) -> u8 {
+        if s == 7 { 3 } else { 2 }
     }
 }
 
 /// Whether a line asks for sources of the largest board alone.
-fn asks_known(then: &Then) -> bool
-    ensures { result ≡ true → AsksBelow 8192 then.now }
+fn asks_known(work: &Work) -> bool
+    ensures { result ≡ true → AsksBelow 8192 work.now }
 {
-    match then {
-        Then::Sync { s } => *s < 8192,
-        Then::Drain { sources, .. } => *sources <= 8192,
-        Then::Reset { sources, .. } => *sources <= 8192,
-        _ => true,
+    match work {
+        Work::Simple { steps } => match steps.then {
+            Then::Sync { s } => s < 8192,
+            Then::Drain { sources, .. } => sources <= 8192,
+            Then::Reset { sources, .. } => sources <= 8192,
+            _ => true,
+        },
+        Work::Migrate { migration } => match *migration {
+            Migration::Masks { sources, .. } => sources <= 8192,
+            Migration::Drains { sources, .. } => sources <= 8192,
+            Migration::Restores { sources, .. } => sources <= 8192,
+        },
     }
 }
 
 /// The next operation of a line, where a notice of one source is outstanding; none of a line that asks for
 /// sources that the largest board hasn't.
 pub fn next_while(work: &mut Work, last: Option<&Outcome>, busy: u32) -> Option<Op> {
-    if !asks_known(&work.then) {
+    if !asks_known(work) {
         return None;
     }
     work.next(last, &Blind { busy })

@@ -1,264 +1,109 @@
 //! Work lines, and the operations that they make.
 
-ghost use Rattle.std.specs.Prelude.{◌≡◌, ◌<◌, ◌≤◌, ◌-◌, ◌∷◌, ◌++◌, List, option_copied, IfSome, Some, IsTrue};
+ghost use Rattle.std.specs.Prelude.{◌≡◌, [], ◌∷◌, ◌++◌, List, option_copied, IfSome, None, Some, IsTrue};
 ghost use Rattle.xv_model.specs.declared.board.Board.{Board};
 ghost use Rattle.xv_model.specs.declared.entries.Entry.{Entry};
 ghost use Rattle.xv_model.specs.account.Start.{Start};
-ghost use Rattle.xv_model.specs.source.Notices.{outstanding};
 ghost use Rattle.xv_model.specs.board.Validity.{valid};
 ghost use Rattle.board_script.specs.declared.work.Work.{Work as AWork};
-ghost use Rattle.xv_model.specs.laws.Triggers.{is_forwarded};
-ghost use Rattle.xv_model.specs.call.Accepted.{is_success};
-ghost use Rattle.board_script.specs.Work.{has_found, is_accepted, settling, resting, first_from, draining, HasPassed};
 
-use crate::resetting::reset_next;
-use xv_model::hypercalls::codes::H_SUCCESS;
+use crate::migrating::Migration;
+use crate::steps::{Steps, Then};
 use xv_model::known::Known;
 use xv_model::operations::{Op, PqOp};
 use xv_model::outcomes::Outcome;
 
-/// How a work line goes on after an operation.
+/// A work line on its way.
 #[derive(Clone, Copy)]
-pub enum Then {
-    /// It is done.
-    Done,
-    /// The notice of this source is routed, where the operation forwarded one.
-    Route {
-        s: u32,
-    },
-    /// The oldest message is taken, where the operation took one.
-    Take,
-    /// Messages are taken until there is none, and then also after each route of an outstanding notice of this
-    /// source; then it is asked whether the source is quiet.
-    Sync {
-        s: u32,
-    },
-    /// Messages are taken until there is none, and then also after each route of an outstanding notice of the
-    /// sources below `sources`, rising. Those below `from` have no outstanding notice.
-    Drain {
-        from: u32,
-        sources: u32,
-    },
-    /// A page of this source is accessed, where the call was accepted.
-    Esb {
-        s: u32,
-        page: u8,
-        offset: u16,
-        store: bool,
-    },
-    /// The pairs of the initialised sources below `sources` are set to 01, rising, where the call was accepted.
-    /// Those below `from` are done.
-    Reset {
-        from: u32,
-        sources: u32,
-    },
-}
-
-/// A work line on its way: its first operation, and how it goes on. Where it stands is told by the outcome of
-/// its last operation, and, where it drains or resets, by its place: the first source that it still looks at.
-#[derive(Clone, Copy)]
-pub struct Work {
-    pub first: Op,
-    pub then: Then,
-}
-
-/// Whether an operation on a word forwarded, by what it answered.
-fn forwarded(outcome: &Outcome) -> bool
-    ensures { result ≡ is_forwarded outcome.now }
-{
-    match *outcome {
-        Outcome::Pq { forward, .. } => forward != 0,
-        _ => false,
-    }
-}
-
-/// Whether a take found a message, by what it answered.
-fn found(outcome: &Outcome) -> bool
-    ensures { result ≡ has_found outcome.now }
-{
-    matches!(outcome, Outcome::Present { .. } | Outcome::Escalated { .. })
-}
-
-/// Whether a call was accepted, by its code.
-pub fn succeeded(code: i64) -> bool
-    ensures { result ≡ is_success code }
-{
-    code == H_SUCCESS
-}
-
-/// Whether an operation is a call that was accepted, by what it answered.
-fn accepted(outcome: &Outcome) -> bool
-    ensures { result ≡ is_accepted outcome.now }
-{
-    match outcome {
-        Outcome::Reply { reply } => succeeded(reply.code),
-        _ => false,
-    }
-}
-
-/// The operation of a line that settles, after one that answered this: takes until there is no message, and
-/// then `settled`; none after a call that was refused.
-fn settling(outcome: &Outcome, settled: Op) -> Option<Op>
-    ensures { result ≡ settling (Some settled) outcome.now }
-{
-    match outcome {
-        Outcome::NoMessage => Some(settled),
-        Outcome::Quiet | Outcome::Busy { .. } => None,
-        Outcome::Reply { reply } if !succeeded(reply.code) => None,
-        _ => Some(Op::Take { i: 0 }),
-    }
-}
-
-/// What a line that brings a source to rest does once it has settled, by how many of the source's notices are
-/// outstanding.
-fn resting(s: u32, notices: u64) -> Op
-    ensures { result ≡ resting s notices }
-{
-    if notices == 0 {
-        Op::Quiet { s }
-    } else {
-        Op::Route { s }
-    }
-}
-
-/// The first source from this one on, of so many, with a notice that is outstanding.
-fn first_outstanding<N: Known>(known: &N, from: u32, sources: u32) -> Option<u32>
-    requires { sources ≤ N.sources known.now }
-    ensures value { (z : Start) (h : List Entry) → N.knows known.now z h →
-        result ≡ first_from (outstanding z h) from (sources - from) }
-    ensures below { IfSome result (λ s. s < sources) }
-{
-    let mut s = from;
-    while s < sources {
-        if known.out(s) != 0 {
-            return Some(s);
-        }
-        s += 1;
-    }
-    None
-}
-
-/// The operation of a line that drains so many sources, after one that answered this. Once it has settled, it
-/// moves on to the first source with a notice that is outstanding.
-fn drained<N: Known>(outcome: &Outcome, from: &mut u32, sources: u32, known: &N) -> Option<Op>
-    requires { sources ≤ N.sources known.now }
-    ensures value { (z : Start) (h : List Entry) → N.knows known.now z h →
-        result ≡ settling (draining (first_from (outstanding z h) from.old (sources - from.old))) outcome.now }
-    ensures valid { IfSome result (λ o. (b : Board) →
-        sources ≤ b.limits.sources → IsTrue (valid b o)) }
-    ensures passed { (z : Start) (h : List Entry) → N.knows known.now z h →
-        HasPassed (outstanding z h) from.old from.new }
-{
-    match outcome {
-        Outcome::NoMessage => {
-            let s = first_outstanding(known, *from, sources)?;
-            *from = s;
-            Some(Op::Route { s })
-        }
-        Outcome::Quiet | Outcome::Busy { .. } => None,
-        Outcome::Reply { reply } if !succeeded(reply.code) => None,
-        _ => Some(Op::Take { i: 0 }),
-    }
+pub enum Work {
+    /// An operation, and what it goes on with.
+    Simple { steps: Steps },
+    /// A migration.
+    Migrate { migration: Migration },
 }
 
 impl Work {
-    ghost use Rattle.board_script.specs.Work.{once, then_route, sync, drain, op_from_place, next_op, place_of, at_place, MovesTo, IsAt, IsLast, Falls, HasValidSteps, AsksBelow};
+    ghost use Rattle.board_script.specs.Work.{once, with_then, then_route, sync, drain, migrate, next_op, IsAt, IsLast, Falls, HasValidSteps, AsksBelow};
 
     /// Takes of the oldest message, until there is none.
-    pub(crate) const SETTLE: Work = Work {
-        first: Op::Take { i: 0 },
-        then: Then::Take,
+    pub(crate) const SETTLE: Work = Work::Simple {
+        steps: Steps {
+            first: Op::Take { i: 0 },
+            then: Then::Take,
+        },
     };
+
+    /// An operation, and what it goes on with.
+    pub(crate) fn with_then(first: Op, then: Then) -> Work
+        ensures { result ≡ with_then first then }
+    {
+        Work::Simple {
+            steps: Steps { first, then },
+        }
+    }
 
     /// One operation.
     pub(crate) fn once(op: Op) -> Work
         ensures { result ≡ once op }
     {
-        Work {
-            first: op,
-            then: Then::Done,
-        }
+        Work::with_then(op, Then::Done)
     }
 
     /// An operation on the word of a source; where it forwards, also the route of the notice.
     pub(crate) fn then_route(s: u32, op: PqOp) -> Work
         ensures { result ≡ then_route s op }
     {
-        Work {
-            first: Op::Pq { s, op },
-            then: Then::Route { s },
-        }
+        Work::with_then(Op::Pq { s, op }, Then::Route { s })
     }
 
     /// A line that brings a source to rest.
     pub(crate) fn sync(s: u32) -> Work
         ensures { result ≡ sync s }
     {
-        Work {
-            first: Op::Take { i: 0 },
-            then: Then::Sync { s },
-        }
+        Work::with_then(Op::Take { i: 0 }, Then::Sync { s })
     }
 
     /// A line that drains so many sources.
     pub(crate) fn drain(sources: u32) -> Work
         ensures { result ≡ drain sources }
     {
-        Work {
-            first: Op::Take { i: 0 },
-            then: Then::Drain { from: 0, sources },
+        Work::with_then(Op::Take { i: 0 }, Then::Drain { from: 0, sources })
+    }
+
+    /// A migration of so many sources.
+    pub(crate) fn migrate(sources: u32) -> Work
+        ensures { result ≡ migrate sources }
+    {
+        Work::Migrate {
+            migration: Migration::of(sources),
         }
     }
 
-    /// Before the first operation: a line that drains or resets begins with the first source.
-    pub fn begin(&mut self)
-        ensures { self.new ≡ at_place 0 self.old }
+    /// The first operation of the line. `known` is what is known of the account before it.
+    pub fn begin<N: Known>(&mut self, known: &N) -> Op
+        requires sources { AsksBelow (N.sources known.now) self.old }
+        ensures value { (z : Start) (before : List Entry) → N.knows known.now z before →
+            Some result ≡ next_op self.old z before [] }
+        ensures after { (z : Start) (before : List Entry) (x : Entry) → N.knows known.now z before →
+            x.op ≡ result → IsAt self.new self.old z before (x ∷ []) }
+        ensures falls { (z : Start) (before : List Entry) → N.knows known.now z before →
+            Falls self.old self.new None z before result }
+        ensures valid { (b : Board) → HasValidSteps b self.old → IsTrue (valid b result) }
+        ensures stays { (b : Board) → HasValidSteps b self.old → HasValidSteps b self.new }
     {
-        match &mut self.then {
-            Then::Drain { from, .. } => *from = 0,
-            Then::Reset { from, .. } => *from = 0,
-            _ => {}
-        }
-    }
-
-    /// The operation that the line makes after one that answered this. A line that drains moves on past sources
-    /// that have no outstanding notice, and one that resets behind the source that it sets; nothing else of a
-    /// line changes.
-    fn following<N: Known>(&mut self, outcome: &Outcome, known: &N) -> Option<Op>
-        requires sources { AsksBelow (N.sources known.now) self.old.then }
-        ensures value { (z : Start) (h : List Entry) → N.knows known.now z h →
-            result ≡ op_from_place self.old.then z h outcome.now }
-        ensures valid { IfSome result (λ o. (b : Board) →
-            HasValidSteps b self.old → IsTrue (valid b o)) }
-        ensures place { self.new ≡ at_place (place_of self.new.then) self.old }
-        ensures moves { IfSome result (λ o. (z : Start) (h : List Entry) → N.knows known.now z h →
-            MovesTo self.old.then (place_of self.new.then) z h o) }
-    {
-        match &mut self.then {
-            Then::Route { s } if forwarded(outcome) => Some(Op::Route { s: *s }),
-            Then::Take if found(outcome) => Some(Op::Take { i: 0 }),
-            Then::Sync { s } => settling(outcome, resting(*s, known.out(*s))),
-            Then::Drain { from, sources } => drained(outcome, from, *sources, known),
-            Then::Esb {
-                s,
-                page,
-                offset,
-                store,
-            } if accepted(outcome) => Some(Op::Esb {
-                s: *s,
-                page: *page,
-                offset: *offset,
-                store: *store,
-            }),
-            Then::Reset { from, sources } => reset_next(outcome, from, *sources, known),
-            _ => None,
+        match self {
+            Work::Simple { steps } => {
+                steps.begin();
+                steps.first
+            }
+            Work::Migrate { migration } => migration.begin(known),
         }
     }
 
     /// The operation that the line makes next; none where it is done. `last` is what its last operation
     /// answered, none before the first one, and `known` what is known of the account with its entries.
     pub fn next<N: Known>(&mut self, last: Option<&Outcome>, known: &N) -> Option<Op>
-        requires sources { AsksBelow (N.sources known.now) self.old.then }
+        requires sources { AsksBelow (N.sources known.now) self.old }
         ensures value { (w : AWork) (z : Start) (before part : List Entry) →
             IsAt self.old w z before part → N.knows known.now z (part ++ before) →
             IsLast part (option_copied last.entry) → result ≡ next_op w z before part }
@@ -276,11 +121,11 @@ impl Work {
         ensures stays { (b : Board) → HasValidSteps b self.old → HasValidSteps b self.new }
     {
         match last {
-            None => {
-                self.begin();
-                Some(self.first)
-            }
-            Some(outcome) => self.following(outcome, known),
+            None => Some(self.begin(known)),
+            Some(outcome) => match self {
+                Work::Simple { steps } => steps.next(outcome, known),
+                Work::Migrate { migration } => migration.next(outcome, known),
+            },
         }
     }
 }

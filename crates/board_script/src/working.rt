@@ -5,9 +5,12 @@ ghost use Rattle.xv_model.specs.board.Boards.{IsBoard};
 ghost use Rattle.board_script.specs.Words.{answer_with};
 ghost use Rattle.board_script.specs.Grammar.{read_at, refused_at};
 ghost use Rattle.board_script.specs.FirstWords.{out_of_turn as cause_of};
-ghost use Rattle.board_script.specs.Operations.{move_rows, rare_rows, ring_rows, rows, unbuilt_rows};
+ghost use Rattle.board_script.specs.Operations.{device_rows, move_rows, rare_rows, ring_rows, rows};
 ghost use Rattle.board_script.specs.Working.{actor_by, words_after, work_by, work_of};
 
+use crate::attributes::{
+    kvmeq_line, kvmget_line, kvmset_line, migrate_line, vpget_line, vpset_line,
+};
 use crate::calling::{hcall, reset_line};
 use crate::configuring::endset;
 use crate::faults::{Cause, Misread};
@@ -24,39 +27,39 @@ use crate::sources::{
     access_line, assert_line, init_line, level_line, quiet_line, route_line, set_line, sync_line,
     then_route,
 };
-use crate::unbuilt::{kvmeq_line, kvmget_line, kvmset_line, migrate_line, vpget_line, vpset_line};
 use crate::words::{Words, same};
 use crate::work::Work;
 use xv_model::board::Board;
 use xv_model::operations::PqOp;
 
-/// The work of a line that isn't built yet, by its name; an unknown name is refused, where so many bytes are left.
-fn named_unbuilt(
+/// The work of a line of the KVM device, or of a migration, by its name; an unknown name is refused, where so many
+/// bytes are left.
+fn named_of_device(
     board: &Board,
     left: usize,
     name: &[u8],
     words: &mut Words,
 ) -> Result<Work, Misread>
     ensures { (at : List ℕ) → length at ≡ left
-        → result ≡ work_by at (words_after (unbuilt_rows board.now) name.now) words.old }
+        → result ≡ work_by at (words_after (device_rows board.now) name.now) words.old }
 {
-    if same(name, b"migrate") {
-        return migrate_line(left, words);
-    }
     if same(name, b"kvmset") {
-        return kvmset_line(left, words);
+        return kvmset_line(board, words);
     }
     if same(name, b"kvmeq") {
-        return kvmeq_line(left, words);
+        return kvmeq_line(words);
     }
     if same(name, b"kvmget") {
-        return kvmget_line(left, words);
+        return kvmget_line(words);
     }
     if same(name, b"vpget") {
-        return vpget_line(board, left, words);
+        return vpget_line(board, words);
     }
     if same(name, b"vpset") {
-        return vpset_line(board, left, words);
+        return vpset_line(board, words);
+    }
+    if same(name, b"migrate") {
+        return migrate_line(board, words);
     }
     Err(Misread {
         cause: Cause::UnknownWord,
@@ -84,7 +87,7 @@ fn named_move(board: &Board, left: usize, name: &[u8], words: &mut Words) -> Res
     if same(name, b"save") {
         return save_line(board, words);
     }
-    named_unbuilt(board, left, name, words)
+    named_of_device(board, left, name, words)
 }
 
 /// The work of a line, by a name that comes less often.

@@ -62,26 +62,23 @@ fn refuses_lines_of_work(rt: HostRuntime) {
     );
 }
 
-/// What isn't built is refused behind all words, at the name of the operation.
 #[test]
-fn refuses_what_is_not_built(rt: HostRuntime) {
+fn refuses_lines_of_the_device(rt: HostRuntime) {
     let lines = [
-        (b"0 migrate".as_slice(), Cause::NotBuilt, 3),
-        (b"0 migrate 0", Cause::ExtraWord, 11),
-        (b"0 kvmset 1 0x1 0x0", Cause::NotBuilt, 3),
+        (b"0 migrate 0".as_slice(), Cause::ExtraWord, 11),
         (b"0 kvmset 0x100000000 0x1 0x0", Cause::OutOfRange, 10),
-        (b"0 kvmeq 0x0 0x1 16 0x1000 0 0", Cause::NotBuilt, 3),
-        (b"0 kvmeq 0x0 0x1 16 0x100000000 0 0", Cause::NotBuilt, 3),
+        (b"0 kvmset 1 0x1", Cause::MissingWord, 15),
+        (b"0 kvmset 1 v 0x1", Cause::BadNumber, 12),
+        (b"0 kvmeq 0x0 v 16 0x1000 0 0", Cause::BadNumber, 13),
         (
             b"0 kvmeq 0x0 0x1 16 0x1000 0x100000000 0",
             Cause::OutOfRange,
             27,
         ),
-        (b"0 kvmget 3 0x0", Cause::NotBuilt, 3),
+        (b"0 kvmget 3", Cause::MissingWord, 11),
+        (b"0 kvmget 3 0x0 0", Cause::ExtraWord, 16),
         (b"0 vpget 64", Cause::OutOfRange, 9),
-        (b"0 vpget 63", Cause::NotBuilt, 3),
         (b"0 vpset 0 0xff 0x100", Cause::OutOfRange, 16),
-        (b"0 vpset 0 0xff 0xff", Cause::NotBuilt, 3),
     ];
     for (line, cause, byte) in lines {
         refuses(&rt, &mut after_header(&rt), line, cause, byte);

@@ -1,7 +1,8 @@
 //! Lines on processors, messages and rings.
 
+use crate::steps::Then;
 use crate::tests::{assert_places, assert_read, next_of, next_while, work_of};
-use crate::work::{Then, Work};
+use crate::work::Work;
 use std::process::Abort;
 use xv_model::operations::{Access, Op};
 use xv_model::outcomes::{Outcome, Presented, Routed};
@@ -295,12 +296,15 @@ fn drains_each_source(rt: HostRuntime) {
 
 /// Asserts the place of a line that drains the largest board.
 fn assert_place(rt: &impl Abort, drain: &Work, place: u32) {
-    match drain.then {
-        Then::Drain { from, sources } => {
-            assert_eq!(rt; from, place);
-            assert_eq!(rt; sources, 8192);
-        }
-        _ => assert!(rt; false),
+    match drain {
+        Work::Simple { steps } => match steps.then {
+            Then::Drain { from, sources } => {
+                assert_eq!(rt; from, place);
+                assert_eq!(rt; sources, 8192);
+            }
+            _ => assert!(rt; false),
+        },
+        Work::Migrate { .. } => assert!(rt; false),
     }
 }
 

@@ -39,7 +39,6 @@ fn reads_a_script(rt: HostRuntime) {
 
 #[test]
 fn names_causes(rt: HostRuntime) {
-    assert_eq!(rt; Cause::NotBuilt.name(), b"not-built".as_slice());
     assert_eq!(rt;
         Cause::TooManyForwards.name(),
         b"too-many-forwards".as_slice()

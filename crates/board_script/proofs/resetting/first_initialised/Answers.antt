@@ -1,5 +1,5 @@
 use Rattle.std.proofs.Common.{sym, ◌∙◌}
-use Rattle.board_script.specs.Work.{resets}
+use Rattle.board_script.specs.Steps.{resets}
 use Rattle.board_script.proofs.Passing.{search_ends, search_goes_on}
 use Rattle.board_script.proofs.Initialised.{some_to_reset, none_to_reset}
 use Rattle.board_script.proofs.resetting.first_initialised.Goals as goal

@@ -1,7 +1,7 @@
 use Rattle.std.proofs.Common.{◌-◌, ◌≡◌, List}
 use Rattle.xv_model.specs.declared.entries.Entry.{Entry}
 use Rattle.xv_model.specs.account.Start.{Start}
-use Rattle.board_script.specs.Work.{first_from, resets}
+use Rattle.board_script.specs.Steps.{first_from, resets}
 use Rattle.board_script.proofs.resetting.first_initialised.Given as goal
 
 abbrev pub invariant-loop-s : goal.invariant-loop-s

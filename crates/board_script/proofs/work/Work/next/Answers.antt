@@ -1,21 +1,41 @@
-use Rattle.std.proofs.Common.{ap, option_copied}
-use Rattle.board_script.proofs.WorkLines.{after_first, first_falls, next_at, after_next, next_falls}
+use Rattle.std.proofs.Common.{sym, ap, subst, option_copied}
+use Rattle.board_script.specs.declared.work.Work.TheVariants.{Simple, Migrate}
+use Rattle.board_script.proofs.Migrations.{migrates_at, after_migrates, migrating_falls}
+use Rattle.board_script.proofs.WorkLines.{NextIs, StandsAfter, FallsAfter, simple_next, simple_after, simple_falls}
 use Rattle.board_script.proofs.work.Work.next.Goals as goal
 
-pub returns-in-None-clause-falls : goal.returns-in-None-clause-falls
-returns-in-None-clause-falls g c = first_falls c.args.self.now c.begin.new.self (option_copied c.args.last) (g.N.Known.knows c.args.known.now) (ap option_copied c.in-None.is) c.begin.ensures
+pub returns-in-Simple-clause-value : goal.returns-in-Simple-clause-value
+returns-in-Simple-clause-value g c =
+    let last = option_copied c.args.last in let knows = g.N.Known.knows c.args.known.now in
+    subst (λ w. NextIs w c.next.result last knows) (sym c.in-Simple.is)
+    (simple_next c.in-Simple.steps c.next.result last c.in-Some.outcome.now knows (ap option_copied c.in-Some.is) c.next.ensures.value)
 
-pub returns-in-None-clause-after : goal.returns-in-None-clause-after
-returns-in-None-clause-after g c = after_first c.args.self.now c.begin.new.self (option_copied c.args.last) (g.N.Known.knows c.args.known.now) (ap option_copied c.in-None.is) c.begin.ensures
+pub returns-in-Simple-clause-after : goal.returns-in-Simple-clause-after
+returns-in-Simple-clause-after g c =
+    let last = option_copied c.args.last in let knows = g.N.Known.knows c.args.known.now in let e = c.next.ensures in
+    subst (λ w. StandsAfter w (Simple c.next.new.self) c.next.result last knows) (sym c.in-Simple.is)
+    (simple_after c.in-Simple.steps c.next.new.self c.next.result last c.in-Some.outcome.now knows (ap option_copied c.in-Some.is) e.value e.place e.moves)
 
-pub returns-in-Some-clause-value : goal.returns-in-Some-clause-value
-returns-in-Some-clause-value g c =
-    next_at c.args.self.now c.following.result (option_copied c.args.last) c.in-Some.outcome.now (g.N.Known.knows c.args.known.now) (ap option_copied c.in-Some.is) c.following.ensures.value
+pub returns-in-Simple-clause-falls : goal.returns-in-Simple-clause-falls
+returns-in-Simple-clause-falls g c =
+    let last = option_copied c.args.last in let knows = g.N.Known.knows c.args.known.now in let e = c.next.ensures in
+    subst (λ w. FallsAfter w (Simple c.next.new.self) c.next.result last knows) (sym c.in-Simple.is)
+    (simple_falls c.in-Simple.steps c.next.new.self c.next.result last c.in-Some.outcome.now knows (ap option_copied c.in-Some.is) e.value e.place e.moves)
 
-pub returns-in-Some-clause-after : goal.returns-in-Some-clause-after
-returns-in-Some-clause-after g c =
-    after_next c.args.self.now c.following.new.self c.following.result (option_copied c.args.last) c.in-Some.outcome.now (g.N.Known.knows c.args.known.now) (ap option_copied c.in-Some.is) c.following.ensures.value c.following.ensures.place c.following.ensures.moves
+pub returns-in-Migrate-clause-value : goal.returns-in-Migrate-clause-value
+returns-in-Migrate-clause-value g c =
+    let last = option_copied c.args.last in let knows = g.N.Known.knows c.args.known.now in
+    subst (λ w. NextIs w c.next-in-Migrate.result last knows) (sym c.in-Migrate.is)
+    (migrates_at c.in-Migrate.migration c.next-in-Migrate.result last c.in-Some.outcome.now knows (ap option_copied c.in-Some.is) c.next-in-Migrate.ensures.value)
 
-pub returns-in-Some-clause-falls : goal.returns-in-Some-clause-falls
-returns-in-Some-clause-falls g c =
-    next_falls c.args.self.now c.following.new.self c.following.result (option_copied c.args.last) c.in-Some.outcome.now (g.N.Known.knows c.args.known.now) (ap option_copied c.in-Some.is) c.following.ensures.value c.following.ensures.place c.following.ensures.moves
+pub returns-in-Migrate-clause-after : goal.returns-in-Migrate-clause-after
+returns-in-Migrate-clause-after g c =
+    let last = option_copied c.args.last in let knows = g.N.Known.knows c.args.known.now in let e = c.next-in-Migrate.ensures in
+    subst (λ w. StandsAfter w (Migrate c.next-in-Migrate.new.self) c.next-in-Migrate.result last knows) (sym c.in-Migrate.is)
+    (after_migrates c.in-Migrate.migration c.next-in-Migrate.new.self c.next-in-Migrate.result last c.in-Some.outcome.now knows (ap option_copied c.in-Some.is) e.value e.moves)
+
+pub returns-in-Migrate-clause-falls : goal.returns-in-Migrate-clause-falls
+returns-in-Migrate-clause-falls g c =
+    let last = option_copied c.args.last in let knows = g.N.Known.knows c.args.known.now in let e = c.next-in-Migrate.ensures in
+    subst (λ w. FallsAfter w (Migrate c.next-in-Migrate.new.self) c.next-in-Migrate.result last knows) (sym c.in-Migrate.is)
+    (migrating_falls c.in-Migrate.migration c.next-in-Migrate.new.self c.next-in-Migrate.result last c.in-Some.outcome.now knows (ap option_copied c.in-Some.is) e.value e.moves)
