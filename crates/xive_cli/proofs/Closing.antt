@@ -24,6 +24,8 @@ use Rattle.xv_model.proofs.RouteLaws.{routed_in_order, once_forwarded, each_ente
 use Rattle.xv_model.proofs.FewMessages.{quiet_is_quiet, takes_are_few, messages_are_few}
 use Rattle.xv_model.proofs.EscalationLaws.{undelivered_escalates, silent_escalates, escalation_runs}
 use Rattle.xv_model.proofs.HypercallLaws.{refused_does_nothing}
+use Rattle.xv_model.proofs.MigrationLaws.{each_tells_old_pairs, each_state_goes_on}
+use Rattle.xv_model.proofs.ServerLaws.{each_has_servers}
 use Rattle.account.specs.Account.{report_text, account_text}
 use Rattle.account.specs.text.Refusal.{too_long_line}
 use Rattle.machine.specs.Machine.{Held, StandsFor}
@@ -113,6 +115,7 @@ all_told b a v m t t1 t2 t' e r report flushed all =
       work = r.work;
       account = r.account;
       is_script = r.is_script;
+      is_board = r.is_board;
       ran = r.has_run.ran;
       tells = tells_still t t2 t' (account_text b r.account) (tells_both t t1 t2 (told_by (Some b) r.account) (report_text (start b) r.account) r.has_run.tells (told r.account r.has_run.stands)) flushed;
       all = all;
@@ -189,6 +192,7 @@ account_written a v t t' n meets r = record {
   work = r.work;
   account = r.account;
   is_script = are_script a v t (Accepted r.board r.work) n meets r.is_script;
+  is_board = r.is_board;
   follows = r.ran.0;
   legal = r.ran.1;
   numbered = numbered_in_order r.board r.account r.ran.1;
@@ -216,6 +220,9 @@ account_written a v t t' n meets r = record {
   silent_escalate = silent_escalates r.board r.account r.ran.1;
   escalations_run = escalation_runs r.board r.account r.ran.1;
   refused_do_nothing = refused_does_nothing r.board r.account r.ran.1;
+  tell_old_pairs = each_tells_old_pairs r.board r.account r.ran.1;
+  states_go_on = each_state_goes_on r.board r.account r.ran.1;
+  servers = each_has_servers r.board r.account r.is_board r.ran.1;
   written = appended t t' (account_text r.board r.account) n.gathered r.all r.tells;
 }
 
@@ -294,6 +301,7 @@ all_after a u v t t1 t' g tells r = record {
   work = r.work;
   account = r.account;
   is_script = script_behind a u v [] [] (Accepted r.board r.work) g r.is_script;
+  is_board = r.is_board;
   ran = r.ran;
   tells = tells_both t t1 t' [] (account_text r.board r.account) tells r.tells;
   all = r.all;

@@ -16,8 +16,7 @@ use Rattle.machine.specs.Machine.{Held, StandsFor, burden_of}
 use Rattle.board_script.specs.declared.work.Work.{Work}
 use Rattle.board_script.specs.Script.{WorkLine, line_for}
 use Rattle.board_script.specs.Lines.{IsWork}
-use Rattle.board_script.specs.Work.{next_op, load, Falls, at_place}
-use Rattle.board_script.proofs.WorkLines.{first_valid}
+use Rattle.board_script.specs.Work.{next_op, load, Falls}
 use Rattle.xive_cli.specs.Output.{Told, Tells, Fails}
 use Rattle.xive_cli.specs.Line.{entry_of, TellsEntry, FailsEntry, part_text, IsLegalPart, RunsPart}
 use Rattle.xive_cli.proofs.Telling.{tells_nothing, tells_both, fails_after}
@@ -48,15 +47,8 @@ pub runs_none : (w : WorkLine) (m : Held) (t : Told) (z : Start) (before : List 
 runs_none w m t z before st legal = record { is_part = record { begins = tt; legal = legal }; stands = st; tells = tells_nothing t }
 
 -- a line that has begun makes its first operation next
-pub makes_first : (w : WorkLine) (going : Work) (m : Held) (z : Start) (before : List Entry) → going ≡ at_place 0 w.work → IsWork m.fabric.tables.board w.actor w.work → MakesNext w m going.first z before []
-makes_first w going m z before same is =
-    let b = m.fabric.tables.board in
-    let first : going.first ≡ w.work.first = ap (λ v. v.first) same in
-    record {
-      next = ap (λ o. Some o) (sym first);
-      actor = is.actor_is;
-      valid_op = subst (λ o. valid b o ≡ true) (sym first) (first_valid w.work b is.valid_steps);
-    }
+pub makes_first : (w : WorkLine) (o : Op) (m : Held) (z : Start) (before : List Entry) → Some o ≡ next_op w.work z before [] → valid m.fabric.tables.board o ≡ true → IsWork m.fabric.tables.board w.actor w.work → MakesNext w m o z before []
+makes_first w o m z before next v is = record { next = sym next; actor = is.actor_is; valid_op = v }
 
 -- one more entry was made, and its line was told
 pub entry_ran : (w : WorkLine) (m m' : Held) (o : Op) (outcome : Outcome) (t0 t t' : Told) (z : Start) (before part : List Entry) → RunsPart w m t0 t z before part → MakesNext w m o z before part →

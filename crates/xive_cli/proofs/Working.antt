@@ -2,6 +2,7 @@
 use Rattle.std.proofs.Common.{ℕ, ◌≡◌, ◌≤◌, ◌<◌, ◌⊎◌, inl, inr, List, [], ◌∷◌, ◌++◌, Option, Some, refl, sym, ◌∙◌, ap, subst, append-nil}
 use Rattle.xv_model.specs.declared.board.Board.{Board}
 use Rattle.xv_model.specs.account.Start.{start}
+use Rattle.xv_model.specs.board.Boards.{IsBoard}
 use Rattle.account.specs.Account.{header_text}
 use Rattle.machine.specs.Machine.{Held, StandsFor}
 use Rattle.board_script.specs.declared.lines.Said.TheVariants as said
@@ -125,11 +126,12 @@ line_ran b a u v m m' t t1 t2 t' w r by still runs =
     }
 
 -- the end of the script
-pub all_ran : (b : Board) (a u v : Unread) (m : Held) (t t1 t' : Told) → u.parser.board ≡ b → RunsSoFar b a t m u t1 → ((work : List WorkLine) → IsScript u work v (Accepted u.parser.board work)) → Tells t1 [] t' → RunsAllWork b a t m v t'
-all_ran b a u v m t t1 t' e r s still = record {
+pub all_ran : (b : Board) (a u v : Unread) (m : Held) (t t1 t' : Told) → IsBoard b → u.parser.board ≡ b → RunsSoFar b a t m u t1 → ((work : List WorkLine) → IsScript u work v (Accepted u.parser.board work)) → Tells t1 [] t' → RunsAllWork b a t m v t'
+all_ran b a u v m t t1 t' is_board e r s still = record {
   work = r.work;
   account = r.account;
   is_script = subst (λ c. IsScript a [] v (Accepted c r.work)) e (script_behind a u v [] r.work (Accepted u.parser.board r.work) r.goes (s r.work));
+  is_board = is_board;
   has_run = record { ran = r.has_run.ran; stands = r.has_run.stands; tells = tells_still t t1 t' (told_by (Some b) r.account) r.has_run.tells still };
 }
 

@@ -5,6 +5,7 @@ use Rattle.xv_io.specs.Faults.{HasRisen}
 use Rattle.xv_io.specs.Reader.{Meets}
 use Rattle.xv_model.specs.declared.board.Board.{Board}
 use Rattle.xv_model.specs.declared.entries.Entry.{Entry}
+use Rattle.xv_model.specs.board.Boards.{IsBoard}
 use Rattle.board_script.specs.declared.stage.Stage.TheVariants.{Work}
 use Rattle.board_script.specs.Parser.{whole_board}
 use Rattle.board_script.specs.Script.{Script, Accepted, Refused as Rejected, TooLong as Exceeds, SoFar, WorkLine, IsAccountOn, IsAccountOf}
@@ -69,6 +70,7 @@ pub record RunsAll (a : Unread) (t : Told) (b : Unread) (t' : Told) : Type 0 whe
   pub work : List WorkLine
   pub account : List Entry
   pub is_script : IsScript a [] b (Accepted board work)
+  pub is_board : IsBoard board
   pub ran : IsAccountOn (Some board) work account
   pub tells : Tells t (account_text board account) t'
   pub all : t'.gathered ≡ []

@@ -3,6 +3,7 @@ use Rattle.std.specs.Prelude.{List, [], Some}
 use Rattle.xv_model.specs.declared.board.Board.{Board}
 use Rattle.xv_model.specs.declared.entries.Entry.{Entry}
 use Rattle.xv_model.specs.account.Start.{start}
+use Rattle.xv_model.specs.board.Boards.{IsBoard}
 use Rattle.machine.specs.Machine.{Held, StandsFor}
 use Rattle.board_script.specs.Script.{Accepted, WorkLine, IsAccountOn}
 use Rattle.xive_cli.specs.Input.{Unread}
@@ -28,4 +29,5 @@ pub record RunsAllWork (board : Board) (a : Unread) (t : Told) (m : Held) (b : U
   pub work : List WorkLine
   pub account : List Entry
   pub is_script : IsScript a [] b (Accepted board work)
+  pub is_board : IsBoard board
   pub has_run : HasRun board m t t' work account

@@ -63,8 +63,8 @@ pub fn run_line<K: Sink>(
     ensures sink_count { K.faults output.old.sink.now ≤ K.faults output.new.sink.now }
 {
     let mut going = work;
-    going.begin();
-    let mut last = make_entry(machine, output, actor, &going.first)?;
+    let first = going.begin(&*machine);
+    let mut last = make_entry(machine, output, actor, &first)?;
     while let Some(op) = going.next(Some(&last), &*machine) {
         last = make_entry(machine, output, actor, &op)?;
     }

@@ -3,8 +3,11 @@
 ghost use Rattle.std.specs.Prelude.{ℕ, ◌≡◌, ◌≤◌, ◌↔◌, ◌⊎◌, [], List, Some, None};
 ghost use Rattle.std.specs.Io.KnownBytes.{Appends};
 ghost use Rattle.xv_io.specs.Faults.{HasRisen};
-ghost use Rattle.board_script.specs.Accepted.{EachAcceptedGoesOn, EachRefusedEnds};
-ghost use Rattle.board_script.specs.Resting.{DrainsLeaveNothing, ResetsAreAccepted, ResetsClearEnds, ResetsTurnOff, SettlesLeaveNoMessage, SyncCallsEndQuiet, SyncsEndQuiet};
+ghost use Rattle.xv_model.specs.laws.Migrations.{EachQueueGoesOn};
+ghost use Rattle.xv_model.specs.laws.Refusals.{EachLookLeavesAll, EachRefusalLeavesAll};
+ghost use Rattle.board_script.specs.Accepted.{EachAcceptedGoesOn, EachRefusedEnds, EachRefusedSettingEnds, EachSettingGoesOn};
+ghost use Rattle.board_script.specs.Migrations.{MigrationsKeep, MigrationsRest};
+ghost use Rattle.board_script.specs.Resting.{DrainsLeaveNothing, EqSyncsLeaveNothing, ResetsAreAccepted, ResetsClearEnds, ResetsTurnOff, SettingsClearEnds, SettingsTurnOff, SettlesLeaveNoMessage, SourceSyncsEndQuiet, SyncCallsEndQuiet, SyncsEndQuiet};
 ghost use Rattle.board_script.specs.Script.{EachHasAccount, OneOfEach, script_of};
 ghost use Rattle.xive_cli.specs.Command.{command_of};
 ghost use Rattle.xive_cli.specs.Top.{IsBuilt};
@@ -61,14 +64,29 @@ pub fn run_top<S: Source, K: Sink>(
     ensures settles { SettlesLeaveNoMessage }
     ensures syncs { SyncsEndQuiet }
     ensures sync_calls { SyncCallsEndQuiet }
+    ensures source_syncs { SourceSyncsEndQuiet }
     ensures drains { DrainsLeaveNothing }
+    ensures eq_syncs { EqSyncsLeaveNothing }
     ensures resets { ResetsTurnOff }
+    ensures setting_resets { SettingsTurnOff }
     ensures ends { ResetsClearEnds }
+    ensures setting_ends { SettingsClearEnds }
     ensures reset_accepted { ResetsAreAccepted }
 
-    // A line goes on after a hypercall that is accepted, and ends with one that is refused.
+    // A line goes on after a hypercall or a setting that is accepted, and ends with one that is refused.
     ensures calls { EachAcceptedGoesOn }
     ensures refused_calls { EachRefusedEnds }
+    ensures settings { EachSettingGoesOn }
+    ensures refused_settings { EachRefusedSettingEnds }
+
+    // What is refused, finds nothing or only looks changes nothing.
+    ensures refusals { EachRefusalLeavesAll }
+    ensures looks { EachLookLeavesAll }
+
+    // A migration brings all to rest and leaves the sources as they were, and a queue that is set to what was got of one goes on there.
+    ensures migrations_rest { MigrationsRest }
+    ensures migrations_keep { MigrationsKeep }
+    ensures queues { EachQueueGoesOn }
     ensures source_count { S.faults source.old ≤ S.faults source.new }
     ensures sink_count { K.faults sink.old ≤ K.faults sink.new }
 {

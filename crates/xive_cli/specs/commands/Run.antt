@@ -8,6 +8,7 @@ use Rattle.xv_io.specs.Faults.{AppendsPart}
 use Rattle.xv_model.specs.declared.board.Board.{Board}
 use Rattle.xv_model.specs.declared.entries.Entry.{Entry}
 use Rattle.xv_model.specs.account.Start.{start}
+use Rattle.xv_model.specs.board.Boards.{IsBoard}
 use Rattle.xv_model.specs.account.Legal.{IsLegal}
 use Rattle.xv_model.specs.account.Scripts.{Follows}
 use Rattle.xv_model.specs.laws.Triggers.{AreNumbered, AreAccounted, ComeAgain}
@@ -18,6 +19,8 @@ use Rattle.xv_model.specs.laws.Acknowledgements.{AcceptMostFavoured, AnswerAccep
 use Rattle.xv_model.specs.laws.Pending.{HaveOneUser, AreUsers, AreKeptOff, AreInRing, AreShown, StayPending}
 use Rattle.xv_model.specs.laws.Queues.{ReadsNext, ReadsAsWritten}
 use Rattle.xv_model.specs.laws.Hypercalls.{RefusedDoNothing}
+use Rattle.xv_model.specs.laws.Migrations.{TellOldPairs, StatesGoOn}
+use Rattle.xv_model.specs.laws.Servers.{AreServers}
 use Rattle.account.specs.Account.{header_text, entries_text, account_text}
 use Rattle.account.specs.text.Refusal.{refusal_line, too_long_line}
 use Rattle.board_script.specs.declared.faults.ScriptFault.{ScriptFault}
@@ -53,12 +56,13 @@ status_of (Accepted b work) = status.Done
 status_of (Refused fault so_far) = status.Refused
 status_of (TooLong so_far) = status.TooLong
 
--- the known bytes are a script of a board and work lines, and what was appended is the text of that board and of an account that follows the lines and is legal from the board's start record; the forwards, triggers, coalesced triggers and routes of this account, its messages and what is quiet in it, what these write, what is read of it, what is pending and acknowledged in it, what escalates, and the hypercalls that are refused in it, are as the laws say
+-- the known bytes are a script of a board and work lines, and what was appended is the text of that board and of an account that follows the lines and is legal from the board's start record; the forwards, triggers, coalesced triggers and routes of this account, its messages and what is quiet in it, what these write, what is read of it, what is pending and acknowledged in it, what escalates, the hypercalls that are refused in it, the pairs, processors' states and servers that it tells, are as the laws say
 pub record WritesAccount (bytes held held' : Option (List ℕ)) : Type 0 where
   pub board : Board
   pub work : List WorkLine
   pub account : List Entry
   pub is_script : AreScript bytes (Accepted board work)
+  pub is_board : IsBoard board
   pub follows : Follows (start board) (map line_for work) account
   pub legal : IsLegal (start board) account
   pub numbered : AreNumbered board account
@@ -86,6 +90,9 @@ pub record WritesAccount (bytes held held' : Option (List ℕ)) : Type 0 where
   pub silent_escalate : SilentEscalates board account
   pub escalations_run : EscalationRuns board account
   pub refused_do_nothing : RefusedDoNothing board account
+  pub tell_old_pairs : TellOldPairs board account
+  pub states_go_on : StatesGoOn board account
+  pub servers : AreServers board account
   pub written : Appends held held' (account_text board account)
 
 -- a line of the known bytes is refused, and what was appended is what the lines before it give, and the refusal

@@ -10,6 +10,7 @@ use xv_base::{Status, Word};
 use xv_io::{MemSink, MemSource};
 
 mod accounts;
+mod device;
 mod escalations;
 mod events;
 mod faults;

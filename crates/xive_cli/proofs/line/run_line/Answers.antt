@@ -3,7 +3,7 @@ use Rattle.xv_model.specs.declared.board.Board.{Board}
 use Rattle.xv_model.specs.board.Validity.{valid}
 use Rattle.board_script.specs.Script.{WorkLine}
 use Rattle.board_script.specs.Work.{HasValidSteps}
-use Rattle.board_script.proofs.WorkLines.{asks_below, begins_well, after_first, first_falls}
+use Rattle.board_script.proofs.WorkLines.{asks_below}
 use Rattle.xive_cli.specs.Line.{entry_of}
 use Rattle.xive_cli.specs.Output.{told}
 use Rattle.xive_cli.proofs.Entries.{MakesNext, runs_none, makes_first, entry_ran, entry_failed, load_falls, some_load}
@@ -17,29 +17,36 @@ loop-op-init g c =
     let m = c.args.machine.now in
     let t = told c.args.output.now in
     let l = c.requires.legal in
-    let falls = first_falls c.args.work c.begin.new.self None (λ z h. Unit {0}) refl c.begin.ensures c.args.work l.0 l.1 [] (refl, tt) tt refl m.fabric.tables.board c.requires.work.valid_steps in
-    let less = load_falls w c.args.work c.begin.new.self None m c.make_entry.new.machine c.begin.new.self.first c.in_ok-last.last t t (told c.make_entry.new.output) l.0 l.1 [] (runs_none w m t l.0 l.1 l.2 l.3) (makes_first w c.begin.new.self m l.0 l.1 c.begin.ensures c.requires.work) e.tells l.4 falls in
+    let b = c.begin-first.ensures in
+    let o = c.begin-first.result in
+    let v = b.valid m.fabric.tables.board c.requires.work.valid_steps in
+    let less = load_falls w c.args.work c.begin-first.new.self None m c.make_entry.new.machine o c.in_ok-last.last t t (told c.make_entry.new.output) l.0 l.1 [] (runs_none w m t l.0 l.1 l.2 l.3) (makes_first w o m l.0 l.1 (b.value l.0 l.1 l.2) v c.requires.work) e.tells l.4 (b.falls l.0 l.1 l.2) in
     record {
       runs = λ z before st legal.
-          let x = entry_of c.args.actor c.begin.new.self.first c.in_ok-last.last in (
+          let x = entry_of c.args.actor o c.in_ok-last.last in (
             x ∷ [],
-            entry_ran w m c.make_entry.new.machine c.begin.new.self.first c.in_ok-last.last t t (told c.make_entry.new.output) z before [] (runs_none w m t z before st legal) (makes_first w c.begin.new.self m z before c.begin.ensures c.requires.work) e.tells,
-            after_first c.args.work c.begin.new.self None (λ z h. Unit {0}) refl c.begin.ensures c.args.work z before [] x (refl, tt) tt refl refl,
+            entry_ran w m c.make_entry.new.machine o c.in_ok-last.last t t (told c.make_entry.new.output) z before [] (runs_none w m t z before st legal) (makes_first w o m z before (b.value z before st) v c.requires.work) e.tells,
+            b.after z before x st refl,
             refl,
           );
-      steps = begins_well c.args.work c.begin.new.self m.fabric.tables.board c.begin.ensures c.requires.work.valid_steps;
+      steps = b.stays m.fabric.tables.board c.requires.work.valid_steps;
       board = c.make_entry.ensures.board;
       few = omega (arith, less, c.make_entry.ensures.count);
       sink = c.make_entry.ensures.sink;
       sink_count = c.make_entry.ensures.sink_count;
     }
 
+pub begin-first-requires : goal.begin-first-requires
+begin-first-requires g c = record { sources = asks_below c.args.machine.now.fabric.tables.board c.args.work c.requires.work.valid_steps }
+
 pub returns-in_err-last-clause-fails : goal.returns-in_err-last-clause-fails
 returns-in_err-last-clause-fails g c = on_err_anyway c.from_residual.result (λ z before st legal.
     let w : WorkLine = record { actor = c.args.actor; work = c.args.work } in
     let m = c.args.machine.now in
     let t = told c.args.output.now in
-    entry_failed w m c.make_entry.new.machine c.begin.new.self.first t t (told c.make_entry.new.output) z before [] (omega arith) (runs_none w m t z before st legal) (makes_first w c.begin.new.self m z before c.begin.ensures c.requires.work) (c.in_err-last.ensures {u = tt}).fails)
+    let b = c.begin-first.ensures in
+    let o = c.begin-first.result in
+    entry_failed w m c.make_entry.new.machine o t t (told c.make_entry.new.output) z before [] (omega arith) (runs_none w m t z before st legal) (makes_first w o m z before (b.value z before st) (b.valid m.fabric.tables.board c.requires.work.valid_steps) c.requires.work) (c.in_err-last.ensures {u = tt}).fails)
 
 pub make_entry-requires-in-Some-clause-count : goal.make_entry-requires-in-Some-clause-count
 make_entry-requires-in-Some-clause-count g c =

@@ -97,7 +97,8 @@ returns-in-End-clause-done g c =
     let u = unread c.lines.input in
     let v = unread c.read_line.new.input in
     let says = subst (λ it. Says u it v) c.in-End.is e.says in
-    all_ran c.args.input.now.parser.board (unread c.args.input.now) u v c.lines.machine (told c.args.output.now) (told c.lines.output) (told c.read_line.new.output) i.board i.runs says.next e.tells
+    all_ran c.args.input.now.parser.board (unread c.args.input.now) u v c.lines.machine (told c.args.output.now) (told c.lines.output) (told c.read_line.new.output)
+    (subst IsBoard (c.board.ensures.value ∙ c.requires.board) c.board.ensures.board) i.board i.runs says.next e.tells
 
 pub lines-preserved : goal.lines-preserved
 lines-preserved g c =

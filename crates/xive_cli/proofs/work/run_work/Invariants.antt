@@ -13,7 +13,7 @@ invariant-lines g l = record {
   stage : IsWorking l.input.parser.stage;
   board : l.input.parser.board ≡ l.fn.input.parser.board;
   machine : l.machine.fabric.tables.board ≡ l.fn.input.parser.board;
-  few : l.machine.count + 2 * burden_of l.machine ≤ (20 + 10 * most_sources) * l.input.reader.given;
+  few : l.machine.count + 2 * burden_of l.machine ≤ (30 + 20 * most_sources) * l.input.reader.given;
   source : l.input.source.ghost_name ≡ l.fn.input.source.ghost_name;
   sink : l.output.sink.ghost_name ≡ l.fn.output.sink.ghost_name;
   source_count : g.S.Source.faults l.fn.input.source.now ≤ g.S.Source.faults l.input.source.now;

@@ -95,8 +95,8 @@ fn causes(rt: HostRuntime) -> Result<(), Fail> {
         ("0 get\t0", "line 9 byte 6 bad-byte"),
         ("2 get 0", "line 9 byte 1 out-of-range"),
         ("0 endset 0 vq 0 0 0x0 12 0 0x0", "line 9 byte 3 bad-end"),
-        ("0  migrate", "line 9 byte 4 not-built"),
-        ("0 kvmset 9 9 9", "line 9 byte 3 not-built"),
+        ("0  migrate 0", "line 9 byte 12 extra-word"),
+        ("0 kvmset 4294967296 9 9", "line 9 byte 10 out-of-range"),
     ];
     for (lines, refusal) in rows {
         compare_refusal(&rt, rt.alloc(), lines, refusal)?;
