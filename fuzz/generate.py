@@ -8,15 +8,13 @@ border of each of their checks, lines that are wrong.
 
 A script is given to the model while it is made, so that the generator knows pairs and places. Besides that it has the
 words of lines and their ranges from the model, to make lines that are wrong by one thing. A scene makes a whole script;
-what one line may be is in `any_line`. Only where the whole language is built (FUZZ_WHOLE, see model.py) are there lines
-of the KVM device and migrations among them.
+what one line may be is in `any_line`.
 """
 import random
 import sys
 
-from model import CALLS, COUNTS as HEADER_COUNTS, LINES, NOT_BUILT, RANGES, Refused, Run
+from model import CALLS, COUNTS as HEADER_COUNTS, LINES, RANGES, Refused, Run
 
-WHOLE = not NOT_BUILT
 TOP = 1 << 64
 PAYLOADS = (0, 1, 0x10, 0x7f, 0x80, 0xff, 0x100, 0xff00, 0x10000, 0x1020304, 0x7f000000, 0x40000000, 0x7ffffffe,
             0x7fffffff, 0x80000000, 0x80000001, 0xffffffff, 0x100000000, 0x1ffffffff, 0xdeadbeef12345678, TOP - 1)
@@ -54,15 +52,15 @@ ODD_LINES = """start; end 0; END; end now; go; board 1; sources 1; unclaimed 0 0
     0 take 0x100000000; 0 takes 0; 0 connect; 0 connect 0 0; 0 disconnect 0; 0 restore 0; 0 restore 0 0 0; 0 restore
     0 save; 0 save 0 0; 0 push 0; 0 push 0 0 0; 0 push 0 0x80000400; 0 push 0 0x400; 0 push; 0 pull; 0 pull 0 0
     0 pull 0 0 0; 0 cppr 0; 0 cppr 0 0 0; 0 cppr 0 0x100; 0 cppr 0 256; 0 cppr 0 -1; 0 ack; 0 ack 0 0; 0 ack 0 0 0
-    0 inject 0; 0 inject 0 0 0; 0 inject 0 256; 0 inject 0 0x100; 0 regs; 0 regs 0 0; 0 reg 0; 0 ring 0; 0 ipb 0 0"""
-ODD_KVM_LINES = """; 0 kvmset; 0 kvmset 3; 0 kvmset 3 0; 0 kvmset 3 0 0 0; 0 kvmset -1 0 0; 0 kvmset 4294967296 0 0
+    0 inject 0; 0 inject 0 0 0; 0 inject 0 256; 0 inject 0 0x100; 0 regs; 0 regs 0 0; 0 reg 0; 0 ring 0; 0 ipb 0 0
+    0 kvmset; 0 kvmset 3; 0 kvmset 3 0; 0 kvmset 3 0 0 0; 0 kvmset -1 0 0; 0 kvmset 4294967296 0 0
     0 kvmset 3 0 18446744073709551616; 0 kvmset 4 0 1 12 0x1000 1 0; kvmset 3 0 0; 0 kvmseq 0 1 12 0x1000 1 0
     0 kvmeq 0 1 12 0x1000 1; 0 kvmeq 0 1 12 0x1000 1 0 0; 0 kvmeq 0 vqnb 12 0x1000 1 0
     0 kvmeq 0 1 12 0x1000 1 4294967296; 0 kvmeq 0 1 12 0x1000 4294967296 0; 0 kvmeq 0 1 4294967308 0x1000 1 0
     0 kvmeq 0 4294967297 12 0x1000 1 0; 0 kvmget; 0 kvmget 4; 0 kvmget 4 0 0; 0 kvmget 4294967300 0; 0 vpget
     0 vpget 0 0; 0 vpget 64; 0 vpset 0; 0 vpset 0 0; 0 vpset 0 256 0; 0 vpset 0 0 256; 0 vpset 0 0 0 0
     0 vpset 64 0 0; 0 migrate 0; 0 Migrate; migrate; 0 migrates"""
-ODD_LINES = [line.strip() for line in (ODD_LINES + ODD_KVM_LINES * WHOLE).replace("\n", ";").split(";")]
+ODD_LINES = [line.strip() for line in ODD_LINES.replace("\n", ";").split(";")]
 
 
 ODD_ESCALATION_LINES = """0 quiet; 0 quiet 0 0; 0 quiet -1; 0 quiet 8192; 0 Quiet 0; 0 quite 0; quiet 0
@@ -634,7 +632,8 @@ class Script:
         if name == "lisn":
             return self.border(name, given)
         if name == "address":
-            return [n % TOP for n in self.border(name, {"address": given[name], "size": shift})]
+            pages = (self.home,) * 16 if shift > 12 else ()
+            return [n % TOP for n in (*pages, *self.border(name, {"address": given[name], "size": shift}))]
         return {
             "control": (1, 2, 3, 3, *NO_CONTROLS),
             "value": (0, 1, len(processors), len(processors) + 1, 1 << 32 | 1, 1 << 63, TOP - 1),
@@ -701,8 +700,16 @@ class Script:
             0, 1, 1, 2, many - 1, many, many, many + 1, 1 << 8 | 1, 1 << 32, 1 << 32 | 1, 1 << 63 | 1, TOP - 1)))
 
     def state(self):
-        """The state of a processor, which is got, or set and mostly got then."""
+        """The state of a processor, which is got, or set and mostly got then; often of one that has a backlog, which is
+        restored then, as its thread shows IPB alone."""
         pick = self.random
+        kept = [v for v, processor in enumerate(self.machine.processors)
+                if processor.phase == "saved" and processor.backlog]
+        if kept and pick.randrange(2):
+            v = pick.choice(kept)
+            self.work("vpget", v)
+            self.move_on(v)
+            return self.work("regs", self.machine.processors[v].thread or 0)
         v = self.processor()
         if pick.randrange(2):
             return self.work("vpget", v)
@@ -746,8 +753,7 @@ class Script:
                  (self.configure, 5), (self.access, 8), (self.reopen, 2), (self.move, 4), (self.take, 3),
                  (self.ring, 3), (self.remark, 4), (self.relay, 4), (self.reopen_either, 3), (self.owe, 3),
                  (self.quiet, 4), (self.settle_all, 2), (self.ring_page, 3), (self.start, 1), (self.call, 10),
-                 (self.reset, 1), (self.attribute, 7 * WHOLE), (self.ask_attribute, 2 * WHOLE), (self.state, 2 * WHOLE),
-                 (self.migrate, WHOLE))
+                 (self.reset, 1), (self.attribute, 7), (self.ask_attribute, 2), (self.state, 2), (self.migrate, 1))
         self.choose(lines)()
 
     def choose(self, weighted):
@@ -1185,9 +1191,8 @@ class Script:
         """A line of any word, mostly one that is right; it is only made, and not done."""
         pick = self.random
         name = pick.choices(list(LINES), [len(forms) + 2 for forms in LINES.values()])[0]
-        makes = {"endset": self.configure, "hcall": self.call}
-        if WHOLE:
-            makes.update(kvmset=self.attribute, kvmeq=lambda: self.attribute(4), kvmget=self.ask_attribute)
+        makes = {"endset": self.configure, "hcall": self.call, "kvmset": self.attribute,
+                 "kvmeq": lambda: self.attribute(4), "kvmget": self.ask_attribute}
         if name in makes and pick.randrange(8):
             return self.only_made(makes[name])
         level = [s for s in range(self.count) if self.machine.sources[s].level]
@@ -1441,8 +1446,8 @@ class Script:
                   (self.windows, 20), (self.drained_bus, 3), (self.refused, 130), (self.refused_header, 50),
                   (self.escalating, 75), (self.changed_in_flight, 55), (self.outstanding, 40),
                   (self.refused_escalation, 70), (self.ring_pages, 40), (self.called, 400), (self.wrong_lines, 1500),
-                  (self.wrong_header_line, 340), (self.cut, 50), (self.driven, 450 * WHOLE), (self.served, 150 * WHOLE),
-                  (self.states, 120 * WHOLE), (self.migrated, 130 * WHOLE))
+                  (self.wrong_header_line, 340), (self.cut, 50), (self.driven, 450), (self.served, 150),
+                  (self.states, 120), (self.migrated, 130))
         self.choose(scenes)()
         if self.ending is not None:
             return b"\n".join(self.lines) + self.ending

@@ -3,11 +3,8 @@
 
     fuzz/model.py < SCRIPT      writes the account; the exit status is 0 (done), 2 (refused) or 7 (too long)
 
-`run(script)` answers both, of bytes. Streams that fail and too little memory are not in it. Where the environment has
-the word FUZZ_WHOLE, the whole language is built, and nothing is refused as `not-built`; what those lines answer
-isn't in the formats yet.
+`run(script)` answers both, of bytes. Streams that fail and too little memory are not in it.
 """
-import os
 import re
 import sys
 from collections import namedtuple
@@ -692,8 +689,6 @@ LINES = {line.split()[0]: line.split()[1:] for line in (
     "tstore T RING-PAGE OFFSET SIZE VALUE", "hcall N N N N N N", "kvmset I N N", "kvmeq N I I N I I", "kvmget I N",
     "vpget V", "vpset V BYTE BYTE", "read E", "peek N", "zero N N", "fire S", "finish S", "assert S", "settle", "drain",
     "sync S", "cppr T BYTE", "ack T", "inject T BYTE", "regs T", "push T V", "pull T", "reset", "migrate")}
-# In the language, but not built.
-NOT_BUILT = () if "FUZZ_WHOLE" in os.environ else ("kvmset", "kvmeq", "kvmget", "vpget", "vpset", "migrate")
 
 
 def is_among(n, ranges):
@@ -758,7 +753,7 @@ class Machine:
             return None if self.sources[fields[0]].level else "not-level"
         if name == "endset":
             return None if self.takes_end(*fields) else "bad-end"
-        return "not-built" if name in NOT_BUILT else None
+        return None
 
     def entry(self, operation, outcome):
         self.out.append(f"{self.count} {self.actor} {operation} -> {outcome}")
